@@ -1,0 +1,6 @@
+pub mod Broken
+pub mod Distinct
+pub mod Laws
+pub mod Unfold
+pub mod Ways
+pub mod PsiLaws

@@ -1,0 +1,73 @@
+-- `walks::element` meets its contract: the element of a sector lies within the table.
+-- Assumes nothing.
+use mathlib.Core.Path.{_≡_, refl, sym, ap, ap₂, _∙_}
+use Prim.Native.Nat.{ℕ, zero, suc, _+_, _-_, _*_, _/_, _%_, _≤_, _<_}
+use Rattle.bits.specs.Bits.{field}
+use mathlib.Core.List.{List}
+use lib.ListN.{getD, length}
+use Rattle.chains.specs.Packed.{packed}
+use Rattle.bits.proofs.Laws.{field-byte}
+use native.Mathlib.Nat.{mul-suc, mul-le-mul, mul-le-mul-left}
+use native.Mathlib.Numerals.{sub-one}
+use native.Mathlib.Omega.{arith}
+use borrow.Author.Needs.{needs}
+use Rattle.chains.proofs.element.Statement.{statement}
+use Rattle.chains.proofs.element.Tie as tie
+use Rattle.chains.proofs.element.Reads as reads
+use Rattle.chains.proofs.element.Lts as lts
+use Rattle.bits.proofs.pair.Reads as pair-reads
+
+small : (p i : ℕ) → p ≤ 8 → i ≤ 255 → p * (i - 1) ≤ 8 * 255
+small p i h k = mul-le-mul {m₂ = 255} h (omega arith)
+
+inside : (p i n : ℕ) → 1 ≤ i → i ≤ n → p * (i - 1) + p ≤ p * n
+inside p zero n a b = absurd (omega arith)
+inside p (suc k) n a b = rw sub-one (omega (arith, mul-suc p k, mul-le-mul-left p b))
+
+-- an element of eight bits is a byte
+whole-byte : (l : List ℕ) (first p i : ℕ) → p ≡ 8 → first % 8 ≡ 0 → getD l (first / 8 + (i - 1)) 0 < 256
+    → getD l (first / 8 + (i - 1)) 0 ≡ packed l first p i
+whole-byte l first p i e w h =
+    sym (field-byte l (first / 8 + (i - 1)) h)
+    ∙ ap (λ (q : ℕ). field l q 8) (let z : 8 * (first / 8 + (i - 1)) ≡ first + 8 * (i - 1) = omega arith in z)
+    ∙ ap (λ (q : ℕ). field l (first + q * (i - 1)) q) (sym e)
+
+sub-result : tie.Need-sub-result
+sub-result c = search needs
+
+add-result : tie.Need-add-result
+add-result c = search needs
+
+shared-slice-read-result : tie.Need-shared-slice-read-result
+shared-slice-read-result c =
+    let a = c .before .before .before .before .before .args in
+    let e = c .before .before .if1 .taken in
+    let w : a .t .first + a .t .psi * (a .t .sectors - 3) ≤ 8 * length (a .l .now) = search needs in
+    let v : a .t .first + 8 * (a .t .sectors - 3) ≤ 8 * length (a .l .now) = rw e at w in
+    omega arith
+
+cast-result : tie.Need-cast-result
+cast-result c = let a = c .before .before .before .before .before .args in record { fits = omega (arith, c .shared-slice-known2 .given (a .t .first / 8 + (a .i - 1))) }
+
+returns : tie.Need-returns
+returns c =
+    let a = c .before .before .before .before .before .args in
+    whole-byte (a .l .now) (a .t .first) (a .t .psi) (a .i) (c .before .before .if1 .taken) (search needs) (omega (arith, c .shared-slice-known2 .given (a .t .first / 8 + (a .i - 1))))
+
+sub-pair : tie.Need-sub-pair
+sub-pair c = search needs
+
+mul-pair : tie.Need-mul-pair
+mul-pair c = let a = c .before .before .before .before .args in omega (arith, small (a .t .psi) (a .i) (search needs) (search needs))
+
+add-pair : tie.Need-add-pair
+add-pair c = let a = c .before .before .before .before .before .args in omega (arith, small (a .t .psi) (a .i) (search needs) (search needs))
+
+pair-requires : tie.Need-pair-requires
+pair-requires c κs = let a = c .before .before .before .before .before .args in omega (arith, small (a .t .psi) (a .i) (search needs) (search needs), inside (a .t .psi) (a .i) (a .t .sectors - 3) (search needs) (search needs))
+
+returns-2 : tie.Need-returns-2
+returns-2 c = search needs
+
+pub element-spec : {M : Type 1} → statement M
+element-spec = tie.close (tie.spec sub-result add-result shared-slice-read-result cast-result returns sub-pair mul-pair add-pair pair-requires returns-2)

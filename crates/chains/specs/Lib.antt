@@ -1,0 +1,3 @@
+pub mod Chain
+pub mod Psi
+pub mod Packed

@@ -1,0 +1,201 @@
+// Lists of fields that meet end to end: one list for each record of the card, and the routines that read and store by a list.
+ghost use mathlib.Core.Path.{_≡_};
+ghost use Prim.Native.Nat.{_*_, _<_, _≤_};
+ghost use lib.ListN.{length};
+ghost use Rattle.bits.specs.Bits.{field, store};
+ghost use Rattle.fields.specs.Lists.{listOf, endOf, nth};
+ghost use Rattle.fields.specs.Fields.{fields, stores, limitOf, limits, lowest, storesIf};
+
+// The first bit and the width of a field.
+pub struct Span(pub u16, pub u16);
+
+// The records of the card: each has its own list.
+pub enum Layout {
+    Shell,
+    Entry,
+    Head,
+    Tail,
+    Header,
+    Typ23,
+}
+
+const SHELL: [Span; 16] = [
+    Span(0, 6),
+    Span(6, 6),
+    Span(12, 4),
+    Span(16, 24),
+    Span(40, 16),
+    Span(56, 28),
+    Span(84, 4),
+    Span(88, 8),
+    Span(96, 8),
+    Span(104, 8),
+    Span(112, 2),
+    Span(114, 14),
+    Span(128, 8),
+    Span(136, 8),
+    Span(144, 8),
+    Span(152, 8),
+];
+
+const ENTRY: [Span; 7] = [
+    Span(0, 1),
+    Span(1, 13),
+    Span(14, 5),
+    Span(19, 5),
+    Span(24, 1),
+    Span(25, 1),
+    Span(26, 14),
+];
+
+// Of the directory's first two bytes, and of a ticket's.
+const HEAD: [Span; 3] = [Span(0, 6), Span(6, 6), Span(12, 4)];
+
+const TAIL: [Span; 4] = [Span(0, 8), Span(8, 4), Span(12, 4), Span(16, 32)];
+
+const TYP23: [Span; 22] = [
+    Span(16, 8),
+    Span(24, 16),
+    Span(40, 8),
+    Span(48, 2),
+    Span(50, 6),
+    Span(56, 2),
+    Span(58, 14),
+    Span(72, 5),
+    Span(77, 11),
+    Span(88, 5),
+    Span(93, 3),
+    Span(96, 8),
+    Span(104, 8),
+    Span(112, 8),
+    Span(120, 4),
+    Span(124, 4),
+    Span(128, 32),
+    Span(160, 4),
+    Span(164, 12),
+    Span(176, 32),
+    Span(208, 8),
+    Span(216, 16),
+];
+
+// How many fields the list has.
+pub fn count(k: Layout) -> usize
+    ensures { λ r. ⌜ r ≡ length (listOf k) ⌝ }
+{
+    match k {
+        Layout::Shell => 16,
+        Layout::Entry => 7,
+        Layout::Head => 3,
+        Layout::Tail => 4,
+        Layout::Header => 3,
+        Layout::Typ23 => 22,
+    }
+}
+
+// The place of the field i, counted from 0.
+pub fn place(k: Layout, i: usize) -> Span
+    requires { ⌜ i < length (listOf k) ⌝ }
+    ensures { λ r. ⌜ r ≡ nth (listOf k) i ⌝ }
+{
+    match k {
+        Layout::Shell => SHELL[i],
+        Layout::Entry => ENTRY[i],
+        Layout::Head => HEAD[i],
+        Layout::Tail => TAIL[i],
+        Layout::Header => HEAD[i],
+        Layout::Typ23 => TYP23[i],
+    }
+}
+
+// The value of the field i.
+pub fn value(s: &[u8], k: Layout, i: usize) -> u64
+    requires { ⌜ (i < length (listOf k)) × (endOf k ≤ 8 * length (now s)) ⌝ }
+    ensures { λ r. ⌜ r ≡ field (now (s .entry)) (nth (listOf k) i .0) (nth (listOf k) i .1) ⌝ }
+{
+    let p = place(k, i);
+    bits::get(s, p.0 as usize, p.1 as usize)
+}
+
+// Stores the value of the field i.
+pub fn set(s: &mut [u8], k: Layout, i: usize, v: u64)
+    requires { ⌜ (i < length (listOf k)) × (endOf k ≤ 8 * length (now s)) ⌝ }
+    ensures { λ _. ⌜ now (s .exit) ≡ store (now (s .entry)) (nth (listOf k) i .0) (nth (listOf k) i .1) v ⌝ }
+{
+    let p = place(k, i);
+    bits::put(s, p.0 as usize, p.1 as usize, v)
+}
+
+// The largest value of the field i.
+pub fn limit(k: Layout, i: usize) -> u64
+    requires { ⌜ i < length (listOf k) ⌝ }
+    ensures { λ r. ⌜ r ≡ limitOf (nth (listOf k) i) ⌝ }
+{
+    let p = place(k, i);
+    (1u64 << p.1) - 1
+}
+
+// The values of the whole list.
+pub fn read(s: &[u8], k: Layout, out: &mut [u64])
+    requires { ⌜ (length (now out) ≡ length (listOf k)) × (endOf k ≤ 8 * length (now s)) ⌝ }
+    ensures { λ _. ⌜ now (out .exit) ≡ fields (now (s .entry)) (listOf k) ⌝ }
+{
+    let n = count(k);
+    let mut i: usize = 0;
+    while i < n {
+        out[i] = value(s, k, i);
+        i += 1;
+    }
+}
+
+// Stores the values of the whole list.
+pub fn write(s: &mut [u8], k: Layout, values: &[u64])
+    requires { ⌜ (length (now values) ≡ length (listOf k)) × (endOf k ≤ 8 * length (now s)) ⌝ }
+    ensures { λ _. ⌜ now (s .exit) ≡ stores (now (s .entry)) (listOf k) (now (values .entry)) ⌝ }
+{
+    let n = count(k);
+    let mut i: usize = 0;
+    while i < n {
+        set(s, k, i, values[i]);
+        i += 1;
+    }
+}
+
+// The largest values of the whole list.
+pub fn fill_limits(k: Layout, out: &mut [u64])
+    requires { ⌜ length (now out) ≡ length (listOf k) ⌝ }
+    ensures { λ _. ⌜ now (out .exit) ≡ limits (listOf k) ⌝ }
+{
+    let n = count(k);
+    let mut i: usize = 0;
+    while i < n {
+        out[i] = limit(k, i);
+        i += 1;
+    }
+}
+
+// The number, from 1, of the first value above its limit; 0 where there is none.
+pub fn first_above(most: &[u64], values: &[u64]) -> usize
+    requires { ⌜ length (now most) ≡ length (now values) ⌝ }
+    ensures { λ r. ⌜ r ≡ lowest (now (most .entry)) (now (values .entry)) ⌝ }
+{
+    let mut i: usize = 0;
+    while i < values.len() {
+        if most[i] < values[i] {
+            return i + 1;
+        }
+        i += 1;
+    }
+    0
+}
+
+// Stores the values of the whole list where none is too wide: 0; else the number, from 1, of the lowest that is, and nothing is stored.
+pub fn encode(s: &mut [u8], k: Layout, most: &[u64], values: &[u64]) -> usize
+    requires { ⌜ (length (now values) ≡ length (listOf k)) × (endOf k ≤ 8 * length (now s)) × (length (now most) ≡ length (now values)) ⌝ }
+    ensures { λ r. ⌜ (r ≡ lowest (now (most .entry)) (now (values .entry))) × (now (s .exit) ≡ storesIf r (now (s .entry)) (listOf k) (now (values .entry))) ⌝ }
+{
+    let bad = first_above(most, values);
+    if bad == 0 {
+        write(s, k, values);
+    }
+    bad
+}
