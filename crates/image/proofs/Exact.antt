@@ -1,0 +1,299 @@
+-- The verdict is exact: it gives number n with entry e if and only if document 01 says so, and it accepts if and only if the image obeys.
+-- Assumes nothing.
+use mathlib.Core.Path.{_≡_, refl, sym, ap, subst, _∙_}
+use mathlib.Core.Logic.{_≢_, _↔_, _⊎_, inl, inr, ⊎-elim}
+use mathlib.Core.Bool.{Bool, true, false, _&&_, _||_, not, true≢false, false≢true}
+use mathlib.Core.List.{List, [], _∷_, _++_}
+use Prim.Native.Nat.{ℕ, zero, suc, _+_, _-_, _*_, _≤_, _<_}
+use native.Mathlib.Omega.{arith}
+use native.Mathlib.Decide.{decLt, ℕ-discrete}
+use lib.Dec.{eqb, leb}
+use borrow.Author.Tests.{eqb-true, eq-eqb, eqb-false, ne-eqb, leb-true, le-leb, not-true}
+use Rattle.bits.specs.Bits.{field}
+use Rattle.chains.specs.Chain.{Sector, In, Common, Chain, NoChain, Walk, found, broken, walk}
+use Rattle.chains.proofs.Laws.{found-chain, broken-none}
+use Rattle.rules.specs.Claim.{Kept, Fails, here, later, Rule, first, KeptBelow, Unkept}
+use Rattle.rules.proofs.ClaimLaws as CL
+use Rattle.rules.proofs.ClaimLaws.{and-true, Found, none, one, kept-fails, fails-one, Numbered, Rising, fails-row}
+use Rattle.image.specs.Image.{S, e#, entryAt, isProduct, element, chain, sectorsOf, sectors}
+use Rattle.image.specs.Rules as R
+use Rattle.image.specs.Rules.{rules, isBroken, brokenAt, member, meet, some, sharesAt, Verdict, judged, verdict}
+use Rattle.rules.proofs.LowestLaws.{Found-lowest, nowhere, somewhere, lowest-is}
+use Rattle.image.specs.Obeys as O
+use Rattle.image.specs.Obeys.{IsProduct, Broken, Shares, Obeys, Lowest, Says, accepted, refused, shared}
+use Rattle.rules.specs.Lowest.{orHere, lowest}
+
+-- ---- tests
+
+or-true : (a b : Bool) → (a || b) ≡ true → (a ≡ true) ⊎ (b ≡ true)
+or-true true b e = inl e
+or-true false b e = inr e
+
+true-or : (a : Bool) → (a || true) ≡ true
+true-or true = refl
+true-or false = refl
+
+some-true : (n : ℕ) (t : ℕ → Bool) → some n t ≡ true → (i : ℕ) × (i < n) × (t i ≡ true)
+unfolding some
+some-true zero t e = absurd (false≢true e)
+some-true (suc n) t e = go (or-true (some n t) (t n) e) (some-true n t)
+  where
+    go : (some n t ≡ true) ⊎ (t n ≡ true) → (some n t ≡ true → (i : ℕ) × (i < n) × (t i ≡ true)) → (i : ℕ) × (i < suc n) × (t i ≡ true)
+    go (inl a) ih = let r = ih a in (r .0, omega (arith, r .1), r .2)
+    go (inr a) ih = (n, omega arith, a)
+
+true-some : (n : ℕ) (t : ℕ → Bool) (i : ℕ) → i < n → t i ≡ true → some n t ≡ true
+unfolding some
+true-some zero t i h e = absurd (omega arith)
+true-some (suc n) t i h e = go (decLt i n) (true-some n t i)
+  where
+    go : Dec (i < n) → (i < n → t i ≡ true → some n t ≡ true) → (some n t || t n) ≡ true
+    go (yes l) ih = rw (ih l e)
+    go (no l) ih = let q : i ≡ n = omega arith in rw (← q, e, true-or)
+
+member-in : (x : ℕ) (ys : List ℕ) → member x ys ≡ true → In x ys
+unfolding member
+member-in x [] e = absurd (false≢true e)
+member-in x (y ∷ ys) e = ⊎-elim (λ a. inl (eqb-true x y a)) (λ a. inr (member-in x ys a)) (or-true (eqb x y) (member x ys) e)
+
+in-member : (x : ℕ) (ys : List ℕ) → In x ys → member x ys ≡ true
+unfolding member
+in-member x [] h = absurd h
+in-member x (y ∷ ys) (inl e) = rw (eq-eqb x y e)
+in-member x (y ∷ ys) (inr h) = rw (in-member x ys h, true-or)
+
+meet-common : (xs ys : List ℕ) → meet xs ys ≡ true → Common xs ys
+unfolding meet
+meet-common [] ys e = absurd (false≢true e)
+meet-common (x ∷ xs) ys e =
+    ⊎-elim (λ a. (x, inl refl, member-in x ys a)) (λ a. let r = meet-common xs ys a in (r .0, inr (r .1), r .2)) (or-true (member x ys) (meet xs ys) e)
+
+common-meet : (xs ys : List ℕ) → Common xs ys → meet xs ys ≡ true
+unfolding meet
+common-meet [] ys h = absurd (h .1)
+common-meet (x ∷ xs) ys h = go (h .1) (common-meet xs ys)
+  where
+    go : (h .0 ≡ x) ⊎ In (h .0) xs → (Common xs ys → meet xs ys ≡ true) → (member x ys || meet xs ys) ≡ true
+    go (inl e) ih = rw (in-member x ys (rw e at (h .2)))
+    go (inr i) ih = rw (ih (h .0, i, h .2), true-or)
+
+-- the lowest that passes a test for P
+lowest-so : (P : ℕ → Type 0) (n : ℕ) (t : ℕ → Bool) → ((k : ℕ) → P k → (1 ≤ k) × (k ≤ n) × (t k ≡ true)) → ((k : ℕ) → t k ≡ true → P k)
+    → {r : ℕ} → Found-lowest n t r → ((r ≡ 0) × ((k : ℕ) → P k → ⊥)) ⊎ ((1 ≤ r) × Lowest P r)
+lowest-so P n t pass so (nowhere h) = inl (refl, λ k p. let q = pass k p in h k (q .0) (q .1) (q .2))
+lowest-so P n t pass so (somewhere {r = r} a l e h) =
+    inr (a, record { holds = so r e; not-lower = λ k b p. let q = pass k p in h k (q .0) b (q .2) })
+
+-- ---- entries
+
+pub test-product : (c : List ℕ) (j : ℕ) → isProduct c j ≡ true → IsProduct c j
+unfolding isProduct
+test-product c j e =
+    let x = and-true (leb 1 j && leb j (e# c)) (not (eqb (field c (8 * entryAt c j) 40) 0)) e in
+    let y = and-true (leb 1 j) (leb j (e# c)) (x .0) in
+    record { low = leb-true 1 j (y .0); high = leb-true j (e# c) (y .1); full = eqb-false _ 0 (not-true _ (x .1)) }
+
+pub product-test : (c : List ℕ) (j : ℕ) → IsProduct c j → isProduct c j ≡ true
+unfolding isProduct
+product-test c j v = rw (le-leb 1 j (v .low), le-leb j (e# c) (v .high), ne-eqb (field c (8 * entryAt c j) 40) 0 (v .full))
+
+module _ (c : List ℕ) (fits : e# c ≤ S c - 3) where
+  pub product-sector : {j : ℕ} → IsProduct c j → Sector (S c) j
+  product-sector v = record { low = v .low; high = omega arith }
+
+  pub broken-so : (j : ℕ) → brokenAt c j ≡ true → Broken c j
+  unfolding brokenAt chain
+  broken-so j e =
+      let x = and-true (isProduct c j) (isBroken (walk (element c) (S c) j (S c - 3))) e in
+      let v = test-product c j (x .0) in
+      go v (walk (element c) (S c) j (S c - 3)) refl (x .1)
+    where
+      go : IsProduct c j → (w : Walk) → walk (element c) (S c) j (S c - 3) ≡ w → isBroken w ≡ true → Broken c j
+      go v (found ss m) q b = absurd (false≢true b)
+      go v broken q b = record { is-product = v; none = broken-none (element c) (S c) (product-sector v) .0 q }
+
+  pub so-broken : (j : ℕ) → Broken c j → brokenAt c j ≡ true
+  unfolding brokenAt chain
+  so-broken j b = rw (product-test c j (b .is-product), broken-none (element c) (S c) (product-sector (b .is-product)) .1 (b .none))
+
+  -- the sectors of a isProduct entry's chain, where there are any
+  sectors-so : (j x : ℕ) → IsProduct c j → In x (sectors c j) → (m : ℕ) × Chain (element c) (S c) j (sectors c j) m
+  unfolding sectors chain
+  sectors-so j x v h = go (walk (element c) (S c) j (S c - 3)) refl h
+    where
+      go : (w : Walk) → walk (element c) (S c) j (S c - 3) ≡ w → In x (sectorsOf w) → (m : ℕ) × Chain (element c) (S c) j (sectorsOf w) m
+      go (found ss m) q i = (m, found-chain (element c) (S c) (product-sector v) .0 q)
+      go broken q i = absurd i
+
+  pub so-sectors : {j m : ℕ} {ss : List ℕ} → IsProduct c j → Chain (element c) (S c) j ss m → sectors c j ≡ ss
+  unfolding sectors chain
+  so-sectors v d = rw (found-chain (element c) (S c) (product-sector v) .1 d)
+
+  pub shares-so : (k : ℕ) → sharesAt c k ≡ true → Shares c k
+  unfolding sharesAt
+  shares-so k e =
+      let x = and-true (isProduct c k) (some k (λ j. isProduct c j && meet (sectors c j) (sectors c k))) e in
+      let y = some-true k (λ j. isProduct c j && meet (sectors c j) (sectors c k)) (x .1) in
+      let z = and-true (isProduct c (y .0)) (meet (sectors c (y .0)) (sectors c k)) (y .2) in
+      let v = test-product c (y .0) (z .0) in
+      let w = test-product c k (x .0) in
+      let h = meet-common (sectors c (y .0)) (sectors c k) (z .1) in
+      let d = sectors-so (y .0) (h .0) v (h .1) in
+      let f = sectors-so k (h .0) w (h .2) in
+      record {
+        lower = y .0;
+        below = y .1;
+        product-lower = v;
+        product-k = w;
+        sectors = sectors c (y .0);
+        mark = d .0;
+        sectors-k = sectors c k;
+        mark-k = f .0;
+        chain = d .1;
+        chain-k = f .1;
+        common = h;
+      }
+
+  pub so-shares : (k : ℕ) → Shares c k → sharesAt c k ≡ true
+  unfolding sharesAt
+  so-shares k s =
+      let p : meet (sectors c (s .lower)) (sectors c k) ≡ true =
+      rw (so-sectors (s .product-lower) (s .chain), so-sectors (s .product-k) (s .chain-k)) (common-meet (s .sectors) (s .sectors-k) (s .common)) in
+      rw (product-test c k (s .product-k), true-some k (λ j. isProduct c j && meet (sectors c j) (sectors c k)) (s .lower) (s .below) (rw (product-test c (s .lower) (s .product-lower), p)))
+
+-- ---- the rules 1 to 9
+
+numbered : (c : List ℕ) → Numbered (rules c)
+unfolding rules
+numbered c = omega arith
+
+rising : (c : List ℕ) → Rising 0 (rules c)
+unfolding rules
+rising c = omega arith
+
+kept-obeys : (c : List ℕ) → Kept (rules c) → ((j : ℕ) → Broken c j → ⊥) → ((k : ℕ) → Shares c k → ⊥) → Obeys c
+unfolding rules
+kept-obeys c k b s =
+    let k5 = k .1 .1 .1 .1 .1 in
+    let k10 = k5 .1 .1 .1 .1 .1 in
+    let k15 = k10 .1 .1 .1 .1 .1 in
+    record {
+      head = k .0;
+      length-stated = k .1 .0;
+      version-one = k .1 .1 .0;
+      copy-in-force = k .1 .1 .1 .0;
+      shell-there = k .1 .1 .1 .1 .0;
+      full-shell = k5 .0;
+      dataset-least = k5 .1 .0;
+      sectors-least = k5 .1 .1 .0;
+      size-least = k5 .1 .1 .1 .0;
+      entries = k5 .1 .1 .1 .1 .0;
+      table-bytes = k10 .0;
+      directory-fits = k10 .1 .0;
+      dataset-fits = k10 .1 .1 .0;
+      whole = k10 .1 .1 .1 .0;
+      checksum = k10 .1 .1 .1 .1 .0;
+      iin = k15 .0;
+      issn = k15 .1 .0;
+      chd = k15 .1 .1 .0;
+      shell-padding = k15 .1 .1 .1 .0;
+      table-padding = k15 .1 .1 .1 .1 .0;
+      none-broken = b;
+      none-shares = s;
+    }
+
+obeys-kept : (c : List ℕ) → Obeys c → Kept (rules c)
+unfolding rules
+obeys-kept c o =
+    (o .head, (o .length-stated, (o .version-one, (o .copy-in-force, (o .shell-there, (o .full-shell, (o .dataset-least, (o .sectors-least, (o .size-least, (o .entries, (o .table-bytes, (o .directory-fits, (o .dataset-fits, (o .whole, (o .checksum, (o .iin, (o .issn, (o .chd, (o .shell-padding, (o .table-padding, tt))))))))))))))))))))
+
+-- e# is at most S - 3 where the rules are kept
+fits-kept : (c : List ℕ) → Kept (rules c) → e# c ≤ S c - 3
+unfolding rules
+fits-kept c k = k .1 .1 .1 .1 .1 .1 .1 .1 .1 .0 .1
+
+-- ---- the verdict
+
+module _ (c : List ℕ) where
+  -- j is the lowest of which P holds, or 0 and there is none
+  LowestOr : (ℕ → Type 0) → ℕ → Type 0
+  LowestOr P j = ((j ≡ 0) × ((i : ℕ) → P i → ⊥)) ⊎ ((1 ≤ j) × Lowest P j)
+
+  says-kept : Kept (rules c) → (j k : ℕ) → LowestOr (Broken c) j → LowestOr (Shares c) k → Says c (judged 0 j k .number) (judged 0 j k .entry)
+  unfolding LowestOr
+  says-kept r zero zero (inl x) (inl y) = accepted (kept-obeys c r (x .1) (y .1))
+  says-kept r zero (suc k) (inl x) (inl y) = absurd (omega (arith, y .0))
+  says-kept r zero zero (inl x) (inr y) = absurd (omega (arith, y .0))
+  says-kept r zero (suc k) (inl x) (inr y) = shared r (x .1) (y .1)
+  says-kept r zero k (inr x) y = absurd (omega (arith, x .0))
+  says-kept r (suc j) k (inl x) y = absurd (omega (arith, x .0))
+  says-kept r (suc j) k (inr x) y = O.broken r (x .1)
+
+  says-judged : (n j k : ℕ) → Found (rules c) n → (Kept (rules c) → LowestOr (Broken c) j) → (Kept (rules c) → LowestOr (Shares c) k)
+      → Says c (judged n j k .number) (judged n j k .entry)
+  says-judged n j k (none r) b s = says-kept r j k (b r) (s r)
+  says-judged zero j k (one a f) b s = absurd (omega arith)
+  says-judged (suc n) j k (one a f) b s = refused f
+
+  pub says : Says c (verdict c .number) (verdict c .entry)
+  unfolding verdict LowestOr
+  says =
+      says-judged (first (rules c)) (lowest (e# c) (brokenAt c)) (lowest (e# c) (sharesAt c)) (CL.found (rules c) (numbered c))
+      (λ r. lowest-so (Broken c) (e# c) (brokenAt c)
+      (λ k p. (p .is-product .low, p .is-product .high, so-broken c (fits-kept c r) k p)) (broken-so c (fits-kept c r)) (lowest-is (e# c) (brokenAt c)))
+      (λ r. lowest-so (Shares c) (e# c) (sharesAt c)
+      (λ k p. (p .product-k .low, p .product-k .high, so-shares c (fits-kept c r) k p)) (shares-so c (fits-kept c r)) (lowest-is (e# c) (sharesAt c)))
+
+  lowest-one : (P : ℕ → Type 0) (q r : ℕ) → Lowest P q → Lowest P r → q ≡ r
+  lowest-one P q r a b =
+      let x : ¬ (q < r) = λ l. b .not-lower q l (a .holds) in
+      let y : ¬ (r < q) = λ l. a .not-lower r l (b .holds) in
+      omega arith
+
+  -- document 01 says one thing of each image
+  pub says-one : {n e m f : ℕ} → Says c n e → Says c m f → (n ≡ m) × (e ≡ f)
+  says-one (accepted o) (accepted p) = (refl, refl)
+  says-one (accepted o) (refused f) = absurd (kept-fails f (obeys-kept c o))
+  says-one (accepted o) (O.broken {j = j} r l) = absurd (o .none-broken j (l .holds))
+  says-one (accepted o) (shared {k = k} r b l) = absurd (o .none-shares k (l .holds))
+  says-one (refused f) (accepted o) = absurd (kept-fails f (obeys-kept c o))
+  says-one (refused f) (refused g) = (fails-one f g, refl)
+  says-one (refused f) (O.broken r l) = absurd (kept-fails f r)
+  says-one (refused f) (shared r b l) = absurd (kept-fails f r)
+  says-one (O.broken {j = j} r l) (accepted o) = absurd (o .none-broken j (l .holds))
+  says-one (O.broken r l) (refused f) = absurd (kept-fails f r)
+  says-one (O.broken {j = j} r l) (O.broken {j = k} q m) = (refl, lowest-one (Broken c) j k l m)
+  says-one (O.broken {j = j} r l) (shared q b m) = absurd (b j (l .holds))
+  says-one (shared {k = k} r b l) (accepted o) = absurd (o .none-shares k (l .holds))
+  says-one (shared r b l) (refused f) = absurd (kept-fails f r)
+  says-one (shared r b l) (O.broken {j = j} q m) = absurd (b j (m .holds))
+  says-one (shared {k = j} r b l) (shared {k = k} q d m) = (refl, lowest-one (Shares c) j k l m)
+
+  -- THE THEOREM: the verdict is number n and entry e if and only if document 01 says so
+  pub exact : (n e : ℕ) → ((verdict c .number ≡ n) × (verdict c .entry ≡ e)) ↔ Says c n e
+  exact n e = ((λ q. rw (← q .0, ← q .1) says), λ s. says-one says s)
+
+  obeys-says : {n e : ℕ} → Says c n e → n ≡ 0 → Obeys c
+  obeys-says (accepted o) z = o
+  obeys-says (refused f) z = absurd (fails-number f (numbered c) z)
+    where
+      fails-number : {n : ℕ} {rs : List Rule} → Fails rs n → Numbered rs → n ≡ 0 → ⊥
+      fails-number (here b) h z = omega (arith, h .0, z)
+      fails-number (later m f) h z = fails-number f (h .1) z
+  obeys-says (O.broken r l) z = absurd (omega arith)
+  obeys-says (shared r b l) z = absurd (omega arith)
+
+  -- accepted if and only if it obeys
+  pub accepts : (verdict c .number ≡ 0) ↔ Obeys c
+  accepts = ((λ z. obeys-says says z), λ o. exact 0 0 .1 (accepted o) .0)
+
+  row-says : {n e : ℕ} → Says c n e → 1 ≤ n → n ≤ 9 → Fails (rules c) n
+  row-says (accepted o) a b = absurd (omega arith)
+  row-says (refused f) a b = f
+  row-says (O.broken r l) a b = absurd (omega arith)
+  row-says (shared r d l) a b = absurd (omega arith)
+
+  -- numbers 1 to 9, as the table has them: a rule of row n is not kept, and every rule of the rows above it is
+  pub row : (n : ℕ) → 1 ≤ n → n ≤ 9 → (verdict c .number ≡ n) ↔ (KeptBelow n (rules c) × Unkept n (rules c))
+  row n a b =
+      ((λ q. fails-row n 0 (rules c) (rising c) .0 (row-says (subst (λ (m : ℕ). Says c m (verdict c .entry)) q says) a b)), λ p. exact n 0 .1 (refused (fails-row n 0 (rules c) (rising c) .1 p)) .0)

@@ -1,0 +1,9 @@
+pub mod Exact
+pub mod Examples
+pub mod Limits
+pub mod Entries
+pub mod Meets
+pub mod Seen
+pub mod Stops
+pub mod Verdict
+pub mod Accepted
