@@ -1,0 +1,166 @@
+-- A record that is taken is decoded as it was, and bytes are encoded as they were exactly where ExpiryTime is below 1,440.
+-- Assumes nothing.
+use mathlib.Core.Path.{_≡_, refl, sym, ap, ap₂, subst, _∙_}
+use mathlib.Core.Logic.{_⊎_, inl, inr, ⊎-elim}
+use mathlib.Core.List.{List, [], _∷_}
+use Prim.Native.Nat.{ℕ, zero, suc, _+_, _-_, _*_, _/_, _%_, _^_, _≤_, _<_}
+use native.Mathlib.Nat.{not-suc-le-zero}
+use native.Mathlib.Omega.{arith}
+use lib.ListN.{length, getD, set, drop}
+use lib.Dec.{ltb}
+use borrow.Author.Tests.{lt-ltb, le-ltb}
+use Rattle.bits.specs.Bits.{Bytes, digit, bit, number, field, store}
+use Rattle.bits.proofs.Laws.{lt-or-le, bit-past, field-byte, field-lt}
+use Rattle.fields.specs.declared.Layout.the-variants.{Typ23}
+use Rattle.fields.specs.Lists.{typ23, nth, joined}
+use Rattle.fields.specs.Fields.{fields, stores, limitOf, limits, lowest}
+use Rattle.fields.proofs.Joined.{lists-joined}
+use Rattle.fields.proofs.Laws.{Fit, AllLow, First, fields-stores, stores-onto, field-before, fit-fields, fit-of, getD-fields, length-fields, length-stores, bytes-stores, lowest-none, none-lowest, lowest-first, first-lowest, getD-limits}
+use Rattle.ticket.specs.declared.Record.{Record}
+use Rattle.ticket.specs.Kind.{kind, mostOf, limit}
+use Rattle.ticket.specs.Ticket.{zeros, bytesOf, encoded, encodeOf, decodeOf}
+use Rattle.ticket.proofs.Limits.{length-most, limit-time, limit-other}
+
+-- equal or not
+same-or-not : {G : Type 0} (a b : ℕ) → (a ≡ b → G) → ((a ≡ b → ⊥) → G) → G
+same-or-not a b same other =
+    ⊎-elim (λ h. other (λ q. omega arith)) (λ h. ⊎-elim (λ k. other (λ q. omega arith)) (λ k. same (omega arith)) (lt-or-le b a)) (lt-or-le a b)
+
+-- twenty-two values, none above its limit
+pub record Fits (t : Record) : Type 0 where
+  pub many : length (t .values) ≡ 22
+  pub low : (n : ℕ) → 1 ≤ n → n ≤ 22 → getD (t .values) (n - 1) 0 ≤ limit kind n
+
+all-low : (t : Record) → Fits t → AllLow (mostOf kind) (t .values)
+all-low t f j h =
+    let e = f .many in
+    subst (λ (k : ℕ). getD (t .values) k 0 ≤ getD (mostOf kind) k 0) (omega arith) (f .low (j + 1) (omega arith) (omega arith))
+
+low-of : (t : Record) → length (t .values) ≡ 22 → AllLow (mostOf kind) (t .values) → Fits t
+low-of t e a = record { many = e; low = λ n h k. a (n - 1) (omega arith) }
+
+-- a limit of the ticket is at (mostOf kind) the width's
+most-low : (j : ℕ) → j < 22 → getD (mostOf kind) j 0 ≤ limitOf (nth typ23 j)
+most-low j h = same-or-not j 8 time other
+  where
+    time : j ≡ 8 → getD (mostOf kind) j 0 ≤ limitOf (nth typ23 j)
+    time q = rw (q, limit-time 9 refl) (omega arith)
+
+    other : (j ≡ 8 → ⊥) → getD (mostOf kind) j 0 ≤ limitOf (nth typ23 j)
+    other ne =
+        let q : j + 1 - 1 ≡ j = omega arith in
+        let e : getD (mostOf kind) j 0 ≡ limitOf (nth typ23 j) = rw q at (limit-other (j + 1) (λ z. ne (omega arith)) (omega arith) (omega arith)) in
+        omega arith
+
+fit : (t : Record) → Fits t → Fit typ23 (t .values)
+fit t f = record { many = f .many; low = λ i h. omega (arith, all-low t f i (omega (arith, f .many)), most-low i h) }
+
+lowest-fits : (t : Record) → Fits t → lowest (mostOf kind) (t .values) ≡ 0
+lowest-fits t f = none-lowest (mostOf kind) (t .values) (length-most ∙ sym (f .many)) (all-low t f)
+
+-- encoded exactly where it fits, else 26 and zeros
+pub taken : (t : Record) → Fits t → encodeOf t ≡ encoded 0 (bytesOf (t .values))
+taken t f = rw (le-ltb 0 (lowest (mostOf kind) (t .values)) (omega (arith, lowest-fits t f)))
+
+pub taken-fits : (t : Record) → length (t .values) ≡ 22 → encodeOf t .number ≡ 0 → Fits t
+taken-fits t e z =
+    ⊎-elim
+    (λ h. absurd (let q : encodeOf t ≡ encoded 26 (zeros 27) = rw (lt-ltb 0 (lowest (mostOf kind) (t .values)) h) in
+    omega (arith, ap (λ x. x .number) q)))
+    (λ h. low-of t e (lowest-none (mostOf kind) (t .values) (length-most ∙ sym e) (omega arith)))
+    (lt-or-le 0 (lowest (mostOf kind) (t .values)))
+
+-- ---- the two bytes before the fields
+
+front : (l : List ℕ) → 2 ≤ length l → getD l 0 0 ≡ 0 → getD l 1 0 ≡ 0 → 0 ∷ 0 ∷ drop 2 l ≡ l
+front [] h p q = absurd (not-suc-le-zero h)
+front (x ∷ []) h p q = absurd (omega arith)
+front (x ∷ y ∷ l) h p q = rw (p, q)
+
+zeros-bytes : (n : ℕ) → Bytes (zeros n)
+zeros-bytes zero k = omega arith
+zeros-bytes (suc n) zero = omega arith
+zeros-bytes (suc n) (suc k) = zeros-bytes n k
+
+byte-kept : (vs : List ℕ) (k : ℕ) → k < 2 → getD (stores (zeros 29) typ23 vs) k 0 ≡ getD (zeros 29) k 0
+byte-kept vs k h =
+    sym (field-byte (stores (zeros 29) typ23 vs) k (bytes-stores (zeros 29) typ23 vs (zeros-bytes 29) k))
+    ∙ field-before 16 typ23 232 (lists-joined Typ23) (zeros 29) vs (8 * k) 8 (omega arith)
+    ∙ field-byte (zeros 29) k (zeros-bytes 29 k)
+
+put-back : (vs : List ℕ) → 0 ∷ 0 ∷ bytesOf vs ≡ stores (zeros 29) typ23 vs
+put-back vs =
+    front (stores (zeros 29) typ23 vs) (omega (arith, length-stores (zeros 29) typ23 vs)) (byte-kept vs 0 (omega arith)) (byte-kept vs 1 (omega arith))
+
+-- ---- both ways
+
+record-of : (t : Record) (l : List ℕ) → l ≡ t .values → record { values = l } ≡ t
+record-of t l e = rw e
+
+pub decode-encode : (t : Record) → Fits t → decodeOf (encodeOf t .bytes) ≡ t
+decode-encode t f =
+    ap (λ x. decodeOf (x .bytes)) (taken t f)
+    ∙ record-of t (fields (0 ∷ 0 ∷ bytesOf (t .values)) typ23)
+    (ap (λ (l : List ℕ). fields l typ23) (put-back (t .values))
+    ∙ fields-stores 16 typ23 232 (lists-joined Typ23) (zeros 29) (t .values) (omega arith) (fit t f))
+
+-- ExpiryTime of the bytes
+abbrev pub timeOf : List ℕ → ℕ
+timeOf b = field (0 ∷ 0 ∷ b) 77 11
+
+decoded-many : (b : List ℕ) → length (decodeOf b .values) ≡ 22
+decoded-many b = length-fields (0 ∷ 0 ∷ b) typ23
+
+decoded-fits : (b : List ℕ) → timeOf b < 1440 → Fits (decodeOf b)
+decoded-fits b h = record { many = decoded-many b; low = λ n i k. same-or-not n 9 (time n) (other n i k) }
+  where
+    time : (n : ℕ) → n ≡ 9 → getD (decodeOf b .values) (n - 1) 0 ≤ limit kind n
+    time n q = rw (q, limit-time 9 refl, getD-fields (0 ∷ 0 ∷ b) typ23 8 (omega arith)) (omega arith)
+
+    other : (n : ℕ) → 1 ≤ n → n ≤ 22 → (n ≡ 9 → ⊥) → getD (decodeOf b .values) (n - 1) 0 ≤ limit kind n
+    other n i k q = rw (limit-other n q i k) (fit-fields (0 ∷ 0 ∷ b) typ23 .low (n - 1) (omega arith))
+
+outside : (b : List ℕ) → length b ≡ 27 → (i : ℕ) → (i < 16) ⊎ (232 ≤ i) → bit (zeros 29) i ≡ bit (0 ∷ 0 ∷ b) i
+unfolding bit
+outside b e i (inl h) = ap (λ (x : ℕ). digit x 8 (i % 8)) (same (i / 8) (omega arith))
+  where
+    same : (k : ℕ) → k < 2 → getD (zeros 29) k 0 ≡ getD (0 ∷ 0 ∷ b) k 0
+    same zero u = refl
+    same (suc zero) u = refl
+    same (suc (suc k)) u = absurd (omega arith)
+outside b e i (inr h) = bit-past (zeros 29) i (omega arith) ∙ sym (bit-past (0 ∷ 0 ∷ b) i (omega arith))
+
+with-zeros : (b : List ℕ) → Bytes b → Bytes (0 ∷ 0 ∷ b)
+with-zeros b h zero = omega arith
+with-zeros b h (suc zero) = omega arith
+with-zeros b h (suc (suc k)) = h k
+
+zero-time : timeOf (zeros 27) ≡ 0
+unfolding field number bit digit
+zero-time = refl
+
+module _ (b : List ℕ) (bytes : Bytes b) (e : length b ≡ 27) where
+  pub encode-decode : timeOf b < 1440 → encodeOf (decodeOf b) ≡ encoded 0 b
+  encode-decode h =
+      taken (decodeOf b) (decoded-fits b h)
+      ∙ ap (λ (l : List ℕ). encoded 0 (drop 2 l))
+      (stores-onto 16 typ23 232 (lists-joined Typ23) (zeros 29) (0 ∷ 0 ∷ b) (zeros-bytes 29) (with-zeros b bytes) (omega arith) (omega arith) (outside b e))
+
+  pub late-refused : 1440 ≤ timeOf b → encodeOf (decodeOf b) ≡ encoded 26 (zeros 27)
+  late-refused h =
+      ⊎-elim (λ k. rw (lt-ltb 0 (lowest (mostOf kind) (decodeOf b .values)) k))
+      (λ k. absurd (late (lowest-none (mostOf kind) (decodeOf b .values) (length-most ∙ sym (decoded-many b)) (omega arith))))
+      (lt-or-le 0 (lowest (mostOf kind) (decodeOf b .values)))
+    where
+      late : AllLow (mostOf kind) (decodeOf b .values) → ⊥
+      late a =
+          let n = decoded-many b in
+          omega (arith, a 8 (omega arith), limit-time 9 refl, getD-fields (0 ∷ 0 ∷ b) typ23 8 (omega arith))
+
+  -- the bytes come back only where ExpiryTime is below 1,440
+  pub encode-decode-only : encodeOf (decodeOf b) .bytes ≡ b → timeOf b < 1440
+  encode-decode-only q =
+      ⊎-elim (λ h. h)
+      (λ h. let z : zeros 27 ≡ b = sym (ap (λ x. x .bytes) (late-refused h)) ∙ q in
+      absurd (omega (arith, ap timeOf (sym z), zero-time)))
+      (lt-or-le (timeOf b) 1440)
