@@ -11,6 +11,7 @@ pub struct Span(pub u16, pub u16);
 
 // The records of the card: each has its own list.
 pub enum Layout {
+    Image,
     Shell,
     Entry,
     Head,
@@ -18,6 +19,8 @@ pub enum Layout {
     Header,
     Typ23,
 }
+
+const IMAGE: [Span; 3] = [Span(0, 16), Span(16, 8), Span(24, 8)];
 
 const SHELL: [Span; 16] = [
     Span(0, 6),
@@ -83,6 +86,7 @@ pub fn count(k: Layout) -> usize
     ensures { λ r. ⌜ r ≡ length (listOf k) ⌝ }
 {
     match k {
+        Layout::Image => 3,
         Layout::Shell => 16,
         Layout::Entry => 7,
         Layout::Head => 3,
@@ -98,6 +102,7 @@ pub fn place(k: Layout, i: usize) -> Span
     ensures { λ r. ⌜ r ≡ nth (listOf k) i ⌝ }
 {
     match k {
+        Layout::Image => IMAGE[i],
         Layout::Shell => SHELL[i],
         Layout::Entry => ENTRY[i],
         Layout::Head => HEAD[i],

@@ -1,0 +1,1 @@
+// The shell record: sixteen values, zero padding and SECR.
