@@ -1,6 +1,7 @@
-pub mod Answer
-pub mod Bounds
 pub mod Image
-pub mod Obeys
 pub mod Rules
+pub mod Product
+pub mod Obeys
+pub mod Bounds
 pub mod Shape
+pub mod Answer

@@ -2,6 +2,8 @@
 use Prim.Native.Nat.{ℕ, _+_, _-_, _*_, _/_}
 use mathlib.Core.List.{List}
 use lib.ListN.{length, getD, set}
+use mathlib.Core.List.{[], _∷_}
+use Rattle.rules.specs.Claim.{_≡?_, _≤?_, Rule, rule}
 use Rattle.fields.specs.declared.Layout.{Layout}
 use Rattle.fields.specs.declared.Layout.the-variants.{Typ23}
 use Rattle.fields.specs.Lists.{listOf, endOf}
@@ -36,3 +38,12 @@ mostOf k = set (limits (listOf k)) 8 1439
 -- the largest value of field n, from 1 on
 abbrev pub limit : Layout → ℕ → ℕ
 limit k n = getD (mostOf k) (n - 1) 0
+
+-- numbers 22 and 23, of a product of the given size whose entry says the TYP t and whose header says the revision r and b blocks
+abbrev pub kindRules : ℕ → ℕ → ℕ → ℕ → List Rule
+kindRules t r b size =
+    rule 22 (t ≡? typ)
+    ∷ rule 22 (r ≡? revision)
+    ∷ rule 23 (leastOf kind ≤? 4 * b)
+    ∷ rule 23 (4 * b ≤? size)
+    ∷ []
