@@ -70,7 +70,7 @@ def good_case(script, dice):
     if dice.below(100) == 0:
         plan = full_plan(dice)
     image = plan.image()
-    script.load(image)
+    script.load(image, fresh=True)
     script.say("check", expect="0 0")
     script.say("list", expect=plan.listing())
     if dice.chance(50):
@@ -114,7 +114,7 @@ def nonsense(script, dice):
 
 def open_case(script, dice, image, answer):
     """An image that may be refused, with calls that must keep all its bytes."""
-    script.load(image)
+    script.load(image, fresh=True)
     script.number("check", expect=answer)
     script.say("list")
     for text in dice.some(["shell", "directory", "table", "entry 1", "chain 1", "ticket 1", "rest 1", "ticket 2 64",

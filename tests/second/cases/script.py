@@ -5,6 +5,8 @@ from protocol import GROUPS, Talk
 GROUP_OF = {word: group for group, words in GROUPS.items() for word in words}
 RUN_MOST = 512
 GAP = 6
+BLOCK = 32
+PATCH_MOST = 200
 
 
 class Script:
@@ -42,30 +44,36 @@ class Script:
                 self.wrong.append((" ".join(str(part) for part in parts), given, tuple(expect)))
         return answer
 
-    def load(self, image):
-        """Make this the image, by the changed bytes alone where that is shorter."""
+    def load(self, image, fresh=False):
+        """Make this the image, unless fresh by the changed bytes alone where that is shorter."""
         self.cards += 1
-        whole = commands(bytes(len(image)), image)
-        if len(image) == len(self.talk.image):
+        patch = None
+        if len(image) == len(self.talk.image) and not fresh:
             patch = commands(bytes(self.talk.image), image)
-            if sum(map(len, patch)) < sum(map(len, whole)):
-                for text in patch:
-                    self.say(text, expect="ok")
-                return
-        self.say("image", len(image), expect=str(len(image)))
-        for text in whole:
+        if patch is None or sum(map(len, patch)) > PATCH_MOST:
+            whole = commands(bytes(len(image)), image)
+            if patch is None or sum(map(len, whole)) < sum(map(len, patch)):
+                self.say("image", len(image), expect=str(len(image)))
+                patch = whole
+        for text in patch:
             self.say(text, expect="ok")
 
 
 def commands(old, new):
     """The `at` commands that turn the old bytes into the new ones."""
-    if old == new:
-        return []
-    differ = [i for i in range(len(new)) if old[i] != new[i]]
     runs = []
-    for i in differ:
+    for i in differing(old, new):
         if runs and i - runs[-1][1] <= GAP and i - runs[-1][0] < RUN_MOST:
             runs[-1][1] = i
         else:
             runs.append([i, i])
     return ["at %d %s" % (first, new[first:last + 1].hex()) for first, last in runs]
+
+
+def differing(old, new):
+    """The places where two images of one length differ."""
+    for start in range(0, len(new), BLOCK):
+        if old[start:start + BLOCK] != new[start:start + BLOCK]:
+            for i in range(start, min(start + BLOCK, len(new))):
+                if old[i] != new[i]:
+                    yield i

@@ -32,7 +32,8 @@ def padding_is_wrong(S, table):
 
 def elements_of(S, table):
     """SCT(1) to SCT(S-3)."""
-    return [read_bits(table, psi(S) * i, psi(S)) for i in range(S - 3)]
+    width = psi(S)
+    return [read_bits(table, width * i, width) for i in range(S - 3)]
 
 
 def element_place(S, sector):
