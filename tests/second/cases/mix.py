@@ -5,7 +5,7 @@ from model.table import psi, table_length
 
 from . import calls, faults
 from .calls import BIG, words
-from .cards import full_plan, random_plan, random_record
+from .cards import crowded_plan, full_plan, random_plan, random_record
 from .values import LAYOUTS, random_shell, random_values
 
 NONSENSE = ("", " ", "?", "Check", "check 1", "check ", " check", "shell 1", "directory 0", "table 1", "entry",
@@ -15,11 +15,13 @@ NONSENSE = ("", " ", "?", "Check", "check 1", "check ", " check", "shell 1", "di
             "at 18446744073709551615 00", "at 65535 00", "keep 1", "bytes 1", "touched 1", "list 1", "unknown", "encode",
             "decode-entry 00", "encode-entry 1", "date x", "crc", "encode-table 4", "value 1", "set 1", "say_check")
 
+ON_AN_IMAGE = ("check", "list", "reads", "steps", "touched")
+
 
 def random_case(script, dice):
     """One case; gives the image it loaded, or None."""
     kind = dice.below(100)
-    if kind < 12:
+    if kind < 12 or not any(script.has(group) for group in ON_AN_IMAGE):
         for _ in range(12):
             random_value_call(script, dice)
         return None
@@ -67,8 +69,8 @@ def sizes_case(dice):
 def good_case(script, dice):
     """A good card with reads, steps and what they touched."""
     plan = random_plan(dice, small=dice.chance(40), sparse=dice.chance(20), sizes=sizes_case(dice))
-    if dice.below(100) == 0:
-        plan = full_plan(dice)
+    if dice.below(60) == 0:
+        plan = dice.pick([full_plan, crowded_plan])(dice)
     image = plan.image()
     script.load(image, fresh=True)
     script.say("check", expect="0 0")
