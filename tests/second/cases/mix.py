@@ -74,7 +74,7 @@ def good_case(script, dice):
     image = plan.image()
     script.load(image, fresh=True)
     script.say("check", expect="0 0")
-    script.say("list", expect=plan.listing())
+    listed(script, plan.listing())
     if dice.chance(50):
         calls.whole_reads(script, plan)
     for j in dice.some(sorted(plan.chain), 3):
@@ -90,6 +90,12 @@ def good_case(script, dice):
     show_bytes(script, dice)
     random_calls(script, dice, plan, 3)
     return image
+
+
+def listed(script, expect=None):
+    """The listing, and a line that is answered `?` to show where it ends."""
+    if script.say("list", expect=expect) is not None:
+        script.say("?", expect="?")
 
 
 def random_calls(script, dice, plan, count):
@@ -118,7 +124,7 @@ def open_case(script, dice, image, answer):
     """An image that may be refused, with calls that must keep all its bytes."""
     script.load(image, fresh=True)
     script.number("check", expect=answer)
-    script.say("list")
+    listed(script)
     for text in dice.some(["shell", "directory", "table", "entry 1", "chain 1", "ticket 1", "rest 1", "ticket 2 64",
                            "entry 2", "chain 2", "chain 3", "chain 0"], 5):
         script.say(text)
