@@ -1,3 +1,9 @@
+use mathlib.Core.Path.{_≡_, sym, _∙_}
+use native.Mathlib.Omega.{arith}
+use Rattle.image.proofs.Accepted.{Open, accepted-open, refused-shut}
+use Rattle.reads.specs.Card.{readShell}
+use Rattle.reads.proofs.Given.{values-refused, none-named}
+use Rattle.reads.proofs.Places.{from-is}
 use borrow.Author.Needs.{needs}
 use Rattle.reads.proofs.read_shell.Statement.{statement}
 use Rattle.reads.proofs.read_shell.Tie as tie
@@ -6,41 +12,42 @@ use Rattle.reads.proofs.read_shell.Lts as lts
 use Rattle.image.proofs.check.Reads as check-reads
 use Rattle.reads.proofs.shell_values.Reads as shell-values-reads
 
--- src/lib.rt:105:11
+-- the image is accepted
+opened : (c : tie.After-enum-told) → Open (c .before .before .before .before .args .image .now) (c .enum-told .given .0 .0)
+opened c = accepted-open _ _ (sym (c .before .before .check .ensures) ∙ c .enum-told .given .1)
+
 check-requires : tie.Need-check-requires
 check-requires c κs = search needs
 
--- src/lib.rt:109:34
 enum-told : tie.Need-enum-told
 enum-told c = search needs
 
--- src/lib.rt:109:34
 sub-shell-values : tie.Need-sub-shell-values
-sub-shell-values c = ?
+sub-shell-values c = omega (arith, opened c .shape .in-bounds)
 
--- src/lib.rt:109:34
 part-shell-values-start : tie.Need-part-shell-values-start
-part-shell-values-start c = ?
+part-shell-values-start c = omega (arith, opened c .shape .in-bounds)
 
--- src/lib.rt:109:34
 part-shell-values-end : tie.Need-part-shell-values-end
 part-shell-values-end c = search needs
 
--- src/lib.rt:109:21
 shell-values-requires : tie.Need-shell-values-requires
-shell-values-requires c κs = ?
+shell-values-requires c κs = omega (arith, opened (c .before) .shape .in-bounds)
 
--- src/lib.rt:111:26
 enum-known-n : tie.Need-enum-known-n
 enum-known-n c = search needs
 
--- src/lib.rt:102:1
 returns : tie.Need-returns
-returns c = ?
+unfolding readShell
+returns c =
+    let o = opened (c .before .before) in
+    rw (o .number-zero, none-named _ (o .number-zero), c .shell-values .ensures, from-is _ 4)
 
--- src/lib.rt:102:1
 returns-2 : tie.Need-returns-2
-returns-2 c = ?
+unfolding readShell
+returns-2 c =
+    let s = refused-shut _ _ _ (sym (c .before .before .before .check .ensures) ∙ c .before .n .given .1) in
+    rw (s .number-is, s .entry-is, values-refused _ 16 _ (s .some))
 
 pub read-shell-spec : {M : Type 1} → statement M
 read-shell-spec =
