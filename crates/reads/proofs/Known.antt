@@ -24,7 +24,8 @@ use Rattle.image.specs.declared.Checked.the-variants.{Accepted, Refused}
 use Rattle.image.proofs.Accepted.{Open, accepted-open, Shut, refused-shut}
 use Rattle.image.proofs.Exact.{test-product, product-sector}
 use Rattle.reads.specs.Asked.{judgedBy, asked}
-use Rattle.reads.specs.Entry.{There, refusal, soughtIn, foundIn}
+use Rattle.reads.specs.Entry.{There, refusal, foundIn}
+use Rattle.reads.specs.Checks.{soughtIn}
 use Rattle.reads.specs.declared.Sought.the-variants.{Here, Missing}
 use Rattle.reads.proofs.Asked.{asked-shut, asked-missing, asked-there}
 
