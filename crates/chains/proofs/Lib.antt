@@ -4,3 +4,4 @@ pub mod Laws
 pub mod Unfold
 pub mod Ways
 pub mod PsiLaws
+pub mod Kept

@@ -7,3 +7,6 @@ pub mod Seen
 pub mod Stops
 pub mod Verdict
 pub mod Accepted
+pub mod First
+pub mod Same
+pub mod Stays
