@@ -7,7 +7,7 @@ use lib.Dec.{T}
 use lib.ListN.{length, take, drop, length-drop, take-append-drop}
 use lib.Seq.{take-at, drop-at, length-take-le}
 use Rattle.bits.specs.Bits.{Bytes, store}
-use Rattle.bits.proofs.Laws.{length-store, bytes-store, store-part, field-cong, bit-append-left}
+use Rattle.bits.proofs.Laws.{length-store, bytes-store, store-part, field-cong, bit-append-left, store-append-left}
 use Rattle.fields.specs.declared.Span.{Span}
 use Rattle.fields.specs.Lists.{joined}
 use Rattle.fields.specs.Fields.{fields, stores}
@@ -77,3 +77,13 @@ pub stores-again : (a : ℕ) (ps : List Span) (e : ℕ) → T (joined a ps e) �
     → stores (stores l ps vs) ps vs ≡ stores l ps vs
 stores-again a ps e t l vs b h f =
     ap (λ (z : List ℕ). stores (stores l ps vs) ps z) (sym (fields-stores a ps e t l vs h f)) ∙ stores-fields (stores l ps vs) ps (bytes-stores l ps vs b)
+
+-- a list that ends within the first of two joined parts is stored into it alone
+pub stores-left : (x y : List ℕ) (ps : List Span) (vs : List ℕ) → Bytes y → Inside 0 (8 * length x) ps → stores x ps vs ++ y ≡ stores (x ++ y) ps vs
+unfolding stores
+stores-left x y [] vs b k = refl
+stores-left x y (p ∷ ps) [] b k = refl
+stores-left x y (p ∷ ps) (v ∷ vs) b k =
+    let e = length-store x (p .0) (p .1) v in
+    stores-left (store x (p .0) (p .1) v) y ps vs b (rw e (k .1))
+    ∙ ap (λ (z : List ℕ). stores z ps vs) (store-append-left x y (p .0) (p .1) v b (omega (arith, k .0)))

@@ -8,8 +8,8 @@ use native.Mathlib.Nat.{suc-mul}
 use native.Mathlib.Omega.{arith}
 use lib.ListN.{length, take, drop, length-drop, length-append}
 use lib.Seq.{length-take-le}
-use Rattle.bits.specs.Bits.{field}
-use Rattle.bits.proofs.Laws.{field-cong, field-part, bit-append-left}
+use Rattle.bits.specs.Bits.{Bytes, field}
+use Rattle.bits.proofs.Laws.{field-cong, field-part, bit-append-left, bytes-append, bytes-take, bytes-drop}
 use Rattle.fields.specs.declared.Span.{Span}
 use Rattle.fields.specs.Fields.{fields}
 use Rattle.fields.proofs.Only.{Inside}
@@ -33,6 +33,12 @@ sectors-head (C.next {ss = ss} a p) = (ss, refl)
 pub first-in : {f : ℕ → ℕ} {s i m : ℕ} {ss : List ℕ} → Leads f s i ss m → In i ss
 first-in (last a) = inl refl
 first-in (C.next a p) = inl refl
+
+pub bytes-joined : (c : List ℕ) → Bytes c → (is : List ℕ) → Bytes (joined c is)
+unfolding joined sector
+bytes-joined c b [] = λ k. omega arith
+bytes-joined c b (i ∷ is) =
+    bytes-append (sector c i) (joined c is) (bytes-take (B c) (drop (sectorAt c i) c) (bytes-drop (sectorAt c i) c b)) (bytes-joined c b is)
 
 module _ (c : List ℕ) (o : Obeys c) where
   pub length-sector : (i : ℕ) → Sector (S c) i → length (sector c i) ≡ B c

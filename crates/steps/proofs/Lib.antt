@@ -1,1 +1,5 @@
 pub mod Acts
+pub mod Exactly
+pub mod Frame
+pub mod Keeps
+pub mod Written

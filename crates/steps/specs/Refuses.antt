@@ -37,8 +37,8 @@ BadRecord vs = (length vs ≢ countOf kind) ⊎ ((i : ℕ) × (i < countOf kind)
 
 -- a write: of a field or of a record
 pub data Writes : Step → Type 0 where
-  a-field : {j n v : ℕ} → Writes (write j n v)
-  a-record : {j : ℕ} {vs : List ℕ} → Writes (writeAll j vs)
+  a-field : (j n v : ℕ) → Writes (write j n v)
+  a-record : (j : ℕ) (vs : List ℕ) → Writes (writeAll j vs)
 
 -- none of 1 to 11, 20, 27, 22, 23 holds
 pub record Writable (c : List ℕ) (j : ℕ) : Type 0 where
