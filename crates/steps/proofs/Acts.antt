@@ -91,6 +91,18 @@ refused-same c s h = go (act c s)
     go (idle p n) = rw p
     go (acts t) = absurd (omega (arith, t .answered-zero))
 
+pub kept-taken : (c : List ℕ) (s : Step) → Obeys c → IsProduct c (owner s) → Kept (stepRules (productAt c (owner s)) s) → Taken c s
+unfolding seen answer
+kept-taken c s o v k =
+    let e = accepts c .1 o in
+    let f = product-test c (owner s) v in
+    let g = go (found (stepRules (productAt c (owner s)) s) (numbered (productAt c (owner s)) s)) in
+    record { obeyed = o; present = v; kept = k; places = rw (e, f, g); stored = rw (e, f); answered-zero = rw (e, f, g) }
+  where
+    go : {n : ℕ} → Found (stepRules (productAt c (owner s)) s) n → n ≡ 0
+    go (none h) = refl
+    go (one a h) = absurd (kept-fails h k)
+
 pub next-is : (c : List ℕ) (s : Step) → Taken c s → next c s ≡ stores c (target (productAt c (owner s)) s) (values (productAt c (owner s)) s)
 unfolding next
 next-is c s t = rw (t .places, t .stored)
