@@ -105,9 +105,10 @@ module _ (c : List ℕ) (b : Bytes c) (s : Step) (t : Taken c s) where
   unfolding product
   product-kept j v d =
       rw (sectors-kept j v)
-      (joined-kept (sectors c j) (λ i h.
-      (chain-sectors (element c) (S c) (product-sector c (o .entries .1) v) (chain-of c o v) i h,
-      λ e. no-common c o (t .present) v d (owner s, first-in (chain-of c o (t .present) .leads), rw e h))))
+      (joined-kept (sectors c j) (λ i h. (
+        chain-sectors (element c) (S c) (product-sector c (o .entries .1) v) (chain-of c o v) i h,
+        λ e. no-common c o (t .present) v d (owner s, first-in (chain-of c o (t .present) .leads), rw e h),
+      )))
     where
       o : Obeys c
       o = t .obeyed
