@@ -3,3 +3,5 @@ pub mod Copied
 pub mod Asked
 pub mod Known
 pub mod Places
+pub mod Sectors
+pub mod InOrder
