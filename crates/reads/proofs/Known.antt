@@ -41,7 +41,7 @@ known-of {c} {g} {j} o t =
     let v = test-product c j t in
     record { opened = o; is-there = t; there = record { obeys = o .obeys; product = v } }
 
-known-at : (c : List ℕ) (j : ℕ) → verdict c .number ≡ 0 → isProduct c j ≡ true → Known c (shapeOf c) j
+pub known-at : (c : List ℕ) (j : ℕ) → verdict c .number ≡ 0 → isProduct c j ≡ true → Known c (shapeOf c) j
 unfolding checkOf
 known-at c j z t = known-of (accepted-open c (shapeOf c) (rw z)) t
 

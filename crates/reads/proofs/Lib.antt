@@ -5,3 +5,5 @@ pub mod Known
 pub mod Places
 pub mod Sectors
 pub mod InOrder
+pub mod Passed
+pub mod TwoCalls

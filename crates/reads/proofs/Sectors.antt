@@ -24,6 +24,7 @@ use Rattle.image.proofs.Accepted.{obeys-bounds}
 use Rattle.image.proofs.First.{length-sector, product-size, product-first}
 use Rattle.reads.specs.Asked.{over}
 use Rattle.reads.specs.Entry.{There}
+use Rattle.reads.proofs.Places.{from-is}
 use Rattle.reads.proofs.Known.{there-at, there-few, there-sector}
 
 -- sector i lies within the image
@@ -159,3 +160,8 @@ pub parts-same : (l b : List ℕ) (a d n : ℕ) → a + n ≤ length l → d + n
 parts-same l b a d n h k =
     let e : a + n - a ≡ d + n - d = omega arith in
     mid-len a (a + n) l h ∙ e ∙ sym (mid-len d (d + n) b k)
+
+-- the fields that the code finds from sector j on
+pub first-fields : {c : List ℕ} {g : Shape} → Shaped c g → {j : ℕ} → There c j → (k : Layout) → endOf k ≤ 256
+    → fields (take (length c - (4 + j * g .size)) (drop (4 + j * g .size) c)) (listOf k) ≡ fields (product c j) (listOf k)
+first-fields {c} {g} s {j} t k e = rw (from-is c (4 + j * g .size), start-is s j) (fields-first t k e)

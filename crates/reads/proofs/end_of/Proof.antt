@@ -1,23 +1,20 @@
+-- `reads::end_of` meets its contract: the day is at most 16,384. Assumes nothing.
+use mathlib.Core.Path.{_≡_, refl, sym, ap, _∙_}
+use native.Mathlib.Omega.{arith}
+use Rattle.reads.proofs.Places.{day-top}
 use borrow.Author.Needs.{needs}
 use Rattle.reads.proofs.end_of.Statement.{statement}
 use Rattle.reads.proofs.end_of.Tie as tie
-use Rattle.reads.proofs.end_of.Reads as reads
-use Rattle.reads.proofs.end_of.Lts as lts
-use Rattle.dates.proofs.day.Reads as day-reads
 
--- src/lib.rt:592:5
 day-requires : tie.Need-day-requires
 day-requires c κs = search needs
 
--- src/lib.rt:592:5
 mul-result : tie.Need-mul-result
-mul-result c = ?
+mul-result c = omega (arith, c .day .ensures, day-top (c .before .args .stamp) (omega arith))
 
--- src/lib.rt:592:5
 add-result : tie.Need-add-result
-add-result c = ?
+add-result c = omega (arith, c .day .ensures, day-top (c .before .args .stamp) (omega arith))
 
--- src/lib.rt:588:1
 returns : tie.Need-returns
 returns c = search needs
 
