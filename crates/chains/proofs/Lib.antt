@@ -9,3 +9,4 @@ pub mod ProductLaws
 pub mod Seen
 pub mod Together
 pub mod Marks
+pub mod Kept
