@@ -8,6 +8,7 @@ pub mod Limits
 pub mod Entries
 pub mod Stops
 pub mod Verdict
+pub mod Order
 pub mod Accepted
 pub mod First
 pub mod Same
