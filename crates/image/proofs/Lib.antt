@@ -3,7 +3,6 @@ pub mod Bounded
 pub mod Shapes
 pub mod Answers
 pub mod Exact
-pub mod Examples
 pub mod Limits
 pub mod Entries
 pub mod Stops
