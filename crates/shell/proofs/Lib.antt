@@ -1,0 +1,2 @@
+pub mod Dataset
+pub mod Rules
