@@ -4,7 +4,7 @@ use fields::Layout;
 use rules::Written;
 ghost use mathlib.Core.Path.{_≡_};
 ghost use Prim.Native.Nat.{_-_, _*_, _≤_};
-ghost use lib.ListN.{length, replicate};
+ghost use lib.ListN.{length};
 ghost use Rattle.rules.specs.Claim.{holds};
 ghost use Rattle.rules.specs.Written.{writtenOf};
 ghost use Rattle.fields.specs.Lists as lists;
@@ -118,22 +118,12 @@ fn judge(v: &[u64], room: usize) -> usize
     rules::TOO_LARGE
 }
 
-fn clear(s: &mut [u8])
-    ensures { λ _. ⌜ now (s .exit) ≡ replicate (length (now (s .entry))) 0 ⌝ }
-{
-    let mut i: usize = 0;
-    while i < s.len() {
-        s[i] = 0;
-        i += 1;
-    }
-}
-
 // The dataset before SECR: the sixteen values and zero padding.
 fn write_body(s: &mut [u8], v: &[u64])
     requires { ⌜ (length (now v) ≡ 16) × (20 ≤ length (now s)) × (length (now s) ≡ datasetOf (now v) - 2) ⌝ }
     ensures { λ _. ⌜ now (s .exit) ≡ bodyOf (now (v .entry)) ⌝ }
 {
-    clear(s);
+    fields::clear(s);
     fields::write(s, Layout::Shell, v);
 }
 

@@ -1,13 +1,13 @@
--- `shell::clear` meets its contract. The invariant: the first i bytes are zero. Assumes nothing.
+-- `fields::clear` meets its contract. The invariant: the first i bytes are zero. Assumes nothing.
 use mathlib.Core.Path.{_≡_, sym}
 use mathlib.Core.List.{List}
 use Prim.Native.Nat.{ℕ, _+_, _-_, _<_}
 use native.Mathlib.Omega.{arith}
 use lib.ListN.{length, replicate, set, length-replicate, getD-replicate}
 use borrow.Author.Needs.{needs}
 use Rattle.fields.proofs.Loops.{Filled, fill-start, fill-more, fill-end}
-use Rattle.shell.proofs.clear.Statement.{statement}
-use Rattle.shell.proofs.clear.Tie as tie
+use Rattle.fields.proofs.clear.Statement.{statement}
+use Rattle.fields.proofs.clear.Tie as tie
 
 abbrev Inv-loop : tie.InvT-loop
 Inv-loop s₀ i₀ s i = Filled (replicate (length s₀) 0) s i
