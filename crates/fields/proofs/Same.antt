@@ -1,6 +1,6 @@
 -- A list that meets end to end reads only the bits between its start and its end, so bytes with the same bits there have the same values.
 -- Assumes nothing.
-use mathlib.Core.Path.{_≡_, refl, ap₂, ap}
+use mathlib.Core.Path.{_≡_, refl, ap, ap₂, _∙_}
 use mathlib.Core.List.{List, [], _∷_}
 use Prim.Native.Nat.{ℕ, _+_, _*_, _≤_, _<_}
 use native.Mathlib.Omega.{arith}
@@ -27,4 +27,4 @@ fields-same a (p ∷ ps) e t l m h =
 
 -- the first n bytes have the values of a list that ends in them
 pub fields-front : (a : ℕ) (ps : List Span) (e : ℕ) → T (joined a ps e) → (l : List ℕ) (n : ℕ) → e ≤ 8 * n → fields (take n l) ps ≡ fields l ps
-fields-front a ps e t l n h = fields-same a ps e t (take n l) l (λ i x y. bit-part l 0 n i (omega arith))
+fields-front a ps e t l n h = fields-same a ps e t (take n l) l (λ i x y. bit-part l 0 n i (omega arith) ∙ ap (bit l) (omega arith))

@@ -8,7 +8,7 @@ use native.Mathlib.Omega.{arith}
 use lib.ListN.{length, getD, take, drop, replicate, length-append, length-take, length-drop, length-replicate, take-append-drop, List·getD-append}
 use lib.Seq.{take-at, drop-at, length-take-le, getD-drop, getD-append-add, take-append-le}
 use Rattle.bits.specs.Bits.{Bytes, bit, field}
-use Rattle.bits.proofs.Laws.{bit-part, bit-append-left, field-byte, field-next, field-zero, bytes-append, bytes-take}
+use Rattle.bits.proofs.Laws.{bit-part, bit-append-left, field-byte, field-next, field-zero, bytes-take, bit-past, lt-or-le}
 use Rattle.bits.proofs.Zeros.{bytes-zeros, bit-zeros, field-of-zeros, zeros-of-field}
 use Rattle.crc.specs.Crc.{register, crc}
 use Rattle.fields.specs.Fields.{fields, stores, fit}
@@ -21,6 +21,7 @@ use Rattle.rules.specs.Claim.{Means, Kept, Fails, first}
 use Rattle.rules.specs.declared.Written.{Written}
 use Rattle.rules.specs.Written.{writtenOf, ifDone}
 use Rattle.rules.proofs.First.{kept-of-first, taken-exactly, refused-exactly}
+use Rattle.shell.specs.declared.Shell.{Shell}
 use Rattle.shell.specs.Shell.{valuesIn, datasetOf, padding, SECR, sealed}
 use Rattle.shell.specs.Encode.{decodeOf, encodeRules, encodeNumber, encodeIn, bodyOf, secrBytes, dataset}
 use Rattle.shell.proofs.Rules.{numbered, Taken, taken}
@@ -75,6 +76,10 @@ unfolding dataset
 last-byte vs k =
     rw (← length-body vs) (getD-append-add (bodyOf vs) (secrBytes (crc (bodyOf vs))) k 0)
 
+made : (vs : List ℕ) {b : List ℕ} → bodyOf vs ≡ b → dataset vs ≡ b ++ secrBytes (crc b)
+unfolding dataset
+made vs e = rw e
+
 -- two bytes are one number, the first the high one
 two-bytes : (l : List ℕ) (a : ℕ) → getD l (a + 0) 0 < 256 → getD l (a + 1) 0 < 256
     → field l (8 * a) 16 ≡ getD l (a + 0) 0 * 256 + getD l (a + 1) 0
@@ -99,16 +104,104 @@ module _ (vs : List ℕ) (room : ℕ) (k : encodeNumber vs room ≡ 0) where
       let q = last-byte vs 1 in
       rw (front-dataset vs) (two-bytes (dataset vs) (datasetOf vs - 2) (omega arith) (omega arith) ∙ omega arith)
 
-  -- decoding what was encoded gives the values back
-  pub decode-dataset : length vs ≡ 16 → valuesIn (dataset vs) ≡ vs
-  decode-dataset n =
+  values-body : length vs ≡ 16 → fields (bodyOf vs) lists.shell ≡ vs
+  unfolding bodyOf encodeNumber
+  values-body n =
       let t = taken vs room k in
-      fields-same 0 lists.shell 160 (lists-joined layout.Shell) (dataset vs) (bodyOf vs) (λ i x y. bit-dataset vs i (omega arith)) ∙ values-body
+      fields-stores 0 lists.shell 160 (lists-joined layout.Shell) (replicate (datasetOf vs - 2) 0) vs
+      (omega (arith, length-replicate {A = ℕ} (datasetOf vs - 2) 0))
+      (record { many = n; low = kept-of-first (encodeRules vs room) (numbered vs room) k .0 })
+
+  values-dataset : length vs ≡ 16 → valuesIn (dataset vs) ≡ vs
+  values-dataset n =
+      let t = taken vs room k in
+      fields-same 0 lists.shell 160 (lists-joined layout.Shell) (dataset vs) (bodyOf vs) (λ i x y. bit-dataset vs i (omega arith)) ∙ values-body n
+
+module _ (vs l : List ℕ) (k : encodeNumber vs (length l) ≡ 0) where
+  -- the buffer holds the dataset, and later bytes stay
+  pub encoded : encodeIn vs l ≡ dataset vs ++ drop (datasetOf vs) l
+  encoded = rw k
+
+  pub dataset-first : take (datasetOf vs) (encodeIn vs l) ≡ dataset vs
+  dataset-first = ap (take (datasetOf vs)) encoded ∙ take-at (dataset vs) (drop (datasetOf vs) l) (datasetOf vs) (length-dataset vs (taken vs (length l) k .enough))
+
+  pub later-stays : drop (datasetOf vs) (encodeIn vs l) ≡ drop (datasetOf vs) l
+  later-stays = ap (drop (datasetOf vs)) encoded ∙ drop-at (dataset vs) (drop (datasetOf vs) l) (datasetOf vs) (length-dataset vs (taken vs (length l) k .enough))
+
+  -- decoding what was encoded gives the values back
+  pub decode-encode : length vs ≡ 16 → decodeOf (take 20 (encodeIn vs l)) ≡ record { values = vs }
+  decode-encode n =
+      let t = taken vs (length l) k in
+      let e = length-dataset vs (t .enough) in
+      shell-of
+      (fields-front 0 lists.shell 160 (lists-joined layout.Shell) (encodeIn vs l) 20 (omega arith)
+      ∙ ap (λ (m : List ℕ). fields m lists.shell) encoded
+      ∙ fields-same 0 lists.shell 160 (lists-joined layout.Shell) (dataset vs ++ drop (datasetOf vs) l) (dataset vs)
+      (λ i x y. bit-append-left (dataset vs) (drop (datasetOf vs) l) i (omega arith))
+      ∙ values-dataset vs (length l) k n)
     where
-      values-body : fields (bodyOf vs) lists.shell ≡ vs
-      unfolding bodyOf encodeNumber
-      values-body =
-          let t = taken vs room k in
-          fields-stores 0 lists.shell 160 (lists-joined layout.Shell) (replicate (datasetOf vs - 2) 0) vs
-          (omega (arith, length-replicate {A = ℕ} (datasetOf vs - 2) 0))
-          (record { many = n; low = kept-of-first (encodeRules vs room) (numbered vs room) k .0 })
+      shell-of : {a : List ℕ} → a ≡ vs → _≡_ {A = Shell} (record { values = a }) (record { values = vs })
+      shell-of e = rw e
+
+-- refused, nothing is altered
+pub refused-stays : (vs l : List ℕ) (n : ℕ) → encodeNumber vs (length l) ≡ suc n → encodeIn vs l ≡ l
+refused-stays vs l n e = rw e
+
+-- ---- back: the bytes d of a dataset, whose values the encoder takes
+
+module _ (d : List ℕ) (bytes : Bytes d) (room : ℕ) (k : encodeNumber (valuesIn d) room ≡ 0) (n : length d ≡ datasetOf (valuesIn d)) where
+  front-is : padding d (datasetOf (valuesIn d)) ≡ 0 → bodyOf (valuesIn d) ≡ take (datasetOf (valuesIn d) - 2) d
+  unfolding bodyOf
+  front-is z =
+      let t = taken (valuesIn d) room k in
+      let m : ℕ = datasetOf (valuesIn d) - 2 in
+      let e : length (take m d) ≡ m = length-take-le m d (omega arith) in
+      let f : fields (take m d) lists.shell ≡ valuesIn d = fields-front 0 lists.shell 160 (lists-joined layout.Shell) d m (omega arith) in
+      ap (stores (replicate m 0) lists.shell) (sym f)
+      ∙ stores-onto 0 lists.shell 160 (lists-joined layout.Shell) (replicate m 0) (take m d) (bytes-zeros m) (bytes-take m d bytes)
+      (length-replicate {A = ℕ} m 0 ∙ sym e) (omega arith)
+      (λ i o. bit-zeros m i ∙ sym (pad i (⊎-elim (λ h. absurd (omega arith)) (λ h. h) o)))
+    where
+      pad : (i : ℕ) → 160 ≤ i → bit (take (datasetOf (valuesIn d) - 2) d) i ≡ 0
+      pad i h = ⊎-elim inside past (lt-or-le i (8 * (datasetOf (valuesIn d) - 2)))
+        where
+          inside : i < 8 * (datasetOf (valuesIn d) - 2) → bit (take (datasetOf (valuesIn d) - 2) d) i ≡ 0
+          inside l =
+              bit-part d 0 (datasetOf (valuesIn d) - 2) i l ∙ ap (bit d) (omega arith)
+              ∙ zeros-of-field d 160 (8 * (datasetOf (valuesIn d) - 22)) z (i - 160) (omega arith)
+
+          past : 8 * (datasetOf (valuesIn d) - 2) ≤ i → bit (take (datasetOf (valuesIn d) - 2) d) i ≡ 0
+          past l = bit-past (take (datasetOf (valuesIn d) - 2) d) i (omega (arith, length-take (datasetOf (valuesIn d) - 2) d))
+
+  last-is : SECR d (datasetOf (valuesIn d)) ≡ crc (sealed d (datasetOf (valuesIn d)))
+      → drop (datasetOf (valuesIn d) - 2) d ≡ secrBytes (crc (sealed d (datasetOf (valuesIn d))))
+  last-is s =
+      let t = taken (valuesIn d) room k in
+      let m : ℕ = datasetOf (valuesIn d) - 2 in
+      let x : ℕ = crc (sealed d (datasetOf (valuesIn d))) in
+      two-of (drop m d) x (omega (arith, length-drop m d))
+      (getD-drop m d 0 0 ∙ omega (arith, two-bytes d m (bytes (m + 0)) (bytes (m + 1)), bytes (m + 0), bytes (m + 1)))
+      (getD-drop m d 1 0 ∙ omega (arith, two-bytes d m (bytes (m + 0)) (bytes (m + 1)), bytes (m + 0), bytes (m + 1)))
+    where
+      two-of : (r : List ℕ) (x : ℕ) → length r ≡ 2 → getD r 0 0 ≡ x / 256 → getD r 1 0 ≡ x % 256 → r ≡ secrBytes x
+      two-of [] x e p q = absurd (omega arith)
+      two-of (a ∷ []) x e p q = absurd (omega arith)
+      two-of (a ∷ b ∷ (c ∷ cs)) x e p q = absurd (omega arith)
+      two-of (a ∷ b ∷ []) x e p q = rw (p, q)
+
+  -- encoding what was decoded gives the bytes back exactly where the padding is zero and SECR right
+  pub encode-decode : (dataset (valuesIn d) ≡ d)
+      ↔ ((padding d (datasetOf (valuesIn d)) ≡ 0) × (SECR d (datasetOf (valuesIn d)) ≡ crc (sealed d (datasetOf (valuesIn d)))))
+  encode-decode = (there, back)
+    where
+      there : dataset (valuesIn d) ≡ d → (padding d (datasetOf (valuesIn d)) ≡ 0) × (SECR d (datasetOf (valuesIn d)) ≡ crc (sealed d (datasetOf (valuesIn d))))
+      there e = (
+        ap (λ (l : List ℕ). padding l (datasetOf (valuesIn d))) (sym e) ∙ padding-zero (valuesIn d) room k,
+        ap (λ (l : List ℕ). SECR l (datasetOf (valuesIn d))) (sym e) ∙ secr-right (valuesIn d) room k
+            ∙ ap (λ (l : List ℕ). crc (sealed l (datasetOf (valuesIn d)))) e,
+      )
+
+      back : (padding d (datasetOf (valuesIn d)) ≡ 0) × (SECR d (datasetOf (valuesIn d)) ≡ crc (sealed d (datasetOf (valuesIn d)))) → dataset (valuesIn d) ≡ d
+      back p =
+          made (valuesIn d) (front-is (p .0)) ∙ ap (λ (z : List ℕ). take (datasetOf (valuesIn d) - 2) d ++ z) (sym (last-is (p .1)))
+          ∙ take-append-drop (datasetOf (valuesIn d) - 2) d
