@@ -1,6 +1,6 @@
 -- `shell::encode` meets its contract: no rule fails, and the dataset stands in the buffer; or one does, and nothing is written. Assumes nothing.
 use mathlib.Core.Path.{_≡_, sym, _∙_}
-use Prim.Native.Nat.{ℕ, _*_}
+use Prim.Native.Nat.{_*_}
 use native.Mathlib.Omega.{arith}
 use lib.ListN.{length, take, getD}
 use lib.Seq.{length-take-le}
