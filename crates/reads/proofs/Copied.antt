@@ -47,7 +47,3 @@ copy-whole l b i e h = rw (e, take-length l, h, drop-length b) (append-nil l)
     append-nil : (l : List ℕ) → l ++ [] ≡ l
     append-nil [] = refl
     append-nil (x ∷ xs) = ap {B = List ℕ} (λ l. x ∷ l) (append-nil xs)
-
--- two lists with the same first element and the same others
-pub cons-is : {x y : ℕ} {l m : List ℕ} → x ≡ y → l ≡ m → x ∷ l ≡ y ∷ m
-cons-is p q = cc
