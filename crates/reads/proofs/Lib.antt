@@ -10,3 +10,4 @@ pub mod TwoCalls
 pub mod Exactly
 pub mod Values
 pub mod Agree
+pub mod Encoded
