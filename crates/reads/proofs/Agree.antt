@@ -2,10 +2,10 @@
 -- read looks at the mark; and each answer is determined, for each contract is an equation. Assumes nothing.
 use mathlib.Core.Path.{_≡_, refl, sym, ap, _∙_}
 use mathlib.Core.Logic.{_↔_}
-use mathlib.Core.List.{List, [], _∷_}
-use Prim.Native.Nat.{ℕ, zero, suc, _-_, _*_, _≤_, _<_}
+use mathlib.Core.List.{List, []}
+use Prim.Native.Nat.{ℕ, zero, suc, _-_, _≤_}
 use native.Mathlib.Omega.{arith}
-use lib.ListN.{length, take, drop, length-drop}
+use lib.ListN.{length, drop, length-drop}
 use lib.Seq.{length-take-le}
 use Rattle.image.specs.Image.{mark, product}
 use Rattle.image.specs.Rules.{Verdict}
@@ -13,7 +13,7 @@ use Rattle.image.specs.Product.{productAt}
 use Rattle.reads.specs.Entry as entry
 use Rattle.reads.specs.Entry.{There}
 use Rattle.reads.specs.Card.{readShell, readDirectory, readTable}
-use Rattle.reads.specs.Ticket.{timeIn, refusal, extent, readTicket, bufferAfter, filledBy, fillOf, numberOf, entryOf, extentOf, restBy, rest}
+use Rattle.reads.specs.Ticket.{timeIn, refusal, extent, readTicket, bufferAfter, filledBy, fillOf, numberOf, entryOf, restBy, rest}
 use Rattle.reads.specs.Says.{Fine, taken}
 use Rattle.reads.specs.declared.ShellRead.{ShellRead}
 use Rattle.reads.specs.declared.DirectoryRead.{DirectoryRead}
@@ -22,7 +22,6 @@ use Rattle.reads.specs.declared.EntryRead.{EntryRead}
 use Rattle.reads.specs.declared.ChainRead.{ChainRead}
 use Rattle.reads.specs.declared.TicketRead.{TicketRead}
 use Rattle.reads.specs.declared.Filled.{Filled}
-use Rattle.reads.specs.declared.Filled.the-variants.{End, Refused}
 use Rattle.reads.proofs.Passed.{passed, passed-entry}
 use Rattle.reads.proofs.Exactly.{row-given}
 

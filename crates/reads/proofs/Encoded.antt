@@ -1,31 +1,30 @@
 -- Encoding what was read gives the bits back: what is read of a record is all that its bytes hold, and the ends of a dataset and of a chain
 -- table are those that an accepted image has. Assumes nothing.
 use mathlib.Core.Path.{_≡_, refl, sym, ap, _∙_}
-use mathlib.Core.List.{List, [], _∷_, _++_}
-use Prim.Native.Nat.{ℕ, zero, suc, _+_, _-_, _*_, _≤_, _<_}
+use mathlib.Core.List.{List, _∷_}
+use Prim.Native.Nat.{ℕ, _+_, _-_, _*_, _≤_, _<_}
 use native.Mathlib.Omega.{arith}
 use lib.ListN.{length, getD, take, drop, length-drop}
 use lib.Seq.{length-take-le, take-at, drop-at}
-use Rattle.bits.specs.Bits.{Bytes, bit, field}
-use Rattle.bits.proofs.Laws.{bit-drop, bit-part, field-part, bytes-take, bytes-drop}
+use Rattle.bits.specs.Bits.{Bytes, bit}
+use Rattle.bits.proofs.Laws.{bit-drop, bit-part, bytes-take, bytes-drop}
 use Rattle.fields.specs.declared.Layout.{Layout}
 use Rattle.fields.specs.declared.Layout.the-variants.{Entry, Head, Tail, Header, Typ23}
 use Rattle.fields.specs.Lists as lists
 use Rattle.fields.specs.Lists.{listOf, startOf, endOf}
-use Rattle.fields.specs.Fields.{fields, valueAt}
+use Rattle.fields.specs.Fields.{fields}
 use Rattle.fields.proofs.Joined.{lists-joined}
 use Rattle.fields.proofs.Laws.{length-fields, getD-fields}
 use Rattle.fields.proofs.Same.{fields-same, fields-front}
 use Rattle.directory.specs.Records.{entryBytes, headBytes, tailBytes}
 use Rattle.directory.proofs.Round.{entry-again, head-again, tail-again}
-use Rattle.ticket.specs.Kind.{kind}
 use Rattle.ticket.specs.Header.{headerBytes}
 use Rattle.ticket.specs.Ticket.{recordIn, encodeOf, encoded}
 use Rattle.ticket.proofs.HeaderRound.{header-again}
 use Rattle.ticket.proofs.Round.{timeOf, encode-decode}
 use Rattle.ticket.specs.declared.Record.{Record}
-use Rattle.image.specs.Image.{B, SCTL, e#, directoryAt, entryAt, tableAt, sectors, product}
-use Rattle.image.specs.Rules.{Verdict, verdict}
+use Rattle.image.specs.Image.{SCTL, directoryAt, entryAt, tableAt, sectors, product}
+use Rattle.image.specs.Rules.{verdict}
 use Rattle.image.specs.Product.{productAt}
 use Rattle.ticket.proofs.Limits.{limit-time}
 use Rattle.image.proofs.Accepted.{obeys-bounds}
@@ -34,8 +33,7 @@ use Rattle.image.proofs.First.{bytes-joined}
 use Rattle.reads.specs.Card.{readDirectory}
 use Rattle.reads.specs.Entry.{There, refusal, readEntry}
 use Rattle.reads.specs.Ticket as ticket
-use Rattle.reads.specs.Ticket.{timeIn, readTicket}
-use Rattle.reads.proofs.Known.{known-at}
+use Rattle.reads.specs.Ticket.{readTicket}
 use Rattle.reads.proofs.Passed.{passed}
 use Rattle.reads.proofs.Places.{entry-in, tail-in}
 

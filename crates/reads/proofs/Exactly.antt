@@ -3,7 +3,7 @@
 use mathlib.Core.Path.{_≡_, refl, sym, ap, _∙_}
 use mathlib.Core.Logic.{_≢_, _↔_, _⊎_, inl, inr, ⊎-elim}
 use mathlib.Core.Bool.{Bool, true, false, true≢false}
-use mathlib.Core.List.{List, [], _∷_}
+use mathlib.Core.List.{List}
 use Prim.Native.Nat.{ℕ, zero, suc, _*_, _≤_, _<_}
 use native.Mathlib.Decide.{ℕ-discrete}
 use native.Mathlib.Omega.{arith}
@@ -15,13 +15,12 @@ use Rattle.ticket.specs.Kind.{kind, typ, revision, leastOf, limit}
 use Rattle.ticket.proofs.Limits.{limit-time}
 use Rattle.image.specs.Image.{isProduct}
 use Rattle.image.specs.Rules.{Verdict, verdict}
-use Rattle.image.specs.Obeys as image
-use Rattle.image.specs.Obeys.{Obeys, IsProduct}
+use Rattle.image.specs.Obeys.{Obeys}
 use Rattle.image.specs.Product.{Product, productAt}
 use Rattle.image.proofs.Accepted.{Shut}
 use Rattle.image.proofs.Exact as exact-image
 use Rattle.image.proofs.Exact.{test-product, product-test, accepts}
-use Rattle.reads.specs.Asked.{named, asked}
+use Rattle.reads.specs.Asked.{named}
 use Rattle.reads.specs.Entry.{There}
 use Rattle.reads.specs.Ticket.{ticketRules, timeIn, refusal}
 use Rattle.reads.specs.Says.{Cause, short, other-kind, wrong-extent, late, Fine, Says, own, no-product, refused, taken}

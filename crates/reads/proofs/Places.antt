@@ -1,12 +1,12 @@
 -- Where the parts of an accepted image lie, for the calls that look at them. Assumes nothing.
-use mathlib.Core.Path.{_≡_, refl}
+use mathlib.Core.Path.{_≡_}
 use mathlib.Core.List.{List}
-use Prim.Native.Nat.{ℕ, _+_, _-_, _*_, _≤_, _<_}
+use Prim.Native.Nat.{ℕ, _+_, _-_, _*_, _≤_}
 use native.Mathlib.Omega.{arith}
 use lib.ListN.{length, take, drop, length-drop}
 use lib.Seq.{take-all}
 use Rattle.chains.specs.Packed.{packed}
-use Rattle.image.specs.Image.{S, B, e#, SCTL, directoryAt, entryAt, tableAt, element}
+use Rattle.image.specs.Image.{e#, SCTL, entryAt, tableAt, element}
 use Rattle.image.specs.Bounds.{Bounds}
 use Rattle.image.specs.Shape.{Shaped}
 use Rattle.image.specs.declared.Shape.{Shape}

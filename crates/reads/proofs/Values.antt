@@ -1,8 +1,8 @@
 -- Every value read is the field at its place of the shell, directory, chain table, entry or product; the count of a chain is its length.
 -- Assumes nothing.
 use mathlib.Core.Path.{_≡_, refl, sym, ap, _∙_}
-use mathlib.Core.List.{List, [], _∷_, _++_}
-use Prim.Native.Nat.{ℕ, _+_, _-_, _≤_, _<_}
+use mathlib.Core.List.{List, _++_}
+use Prim.Native.Nat.{ℕ, _+_, _-_, _<_}
 use native.Mathlib.Omega.{arith}
 use lib.ListN.{length, getD, take, drop, replicate, List·getD-append}
 use lib.Seq.{getD-append-add, take-append-seam}
@@ -14,11 +14,9 @@ use Rattle.fields.proofs.Laws.{length-fields, getD-fields}
 use Rattle.chains.specs.Chain.{Chain}
 use Rattle.ticket.specs.Kind.{kind}
 use Rattle.image.specs.Image.{shellValues, S, SCTL, directoryAt, entryAt, tableAt, element, sectors, mark, product}
-use Rattle.image.specs.Rules.{Verdict, verdict}
-use Rattle.image.specs.Obeys.{Obeys, IsProduct}
+use Rattle.image.specs.Rules.{verdict}
 use Rattle.image.proofs.Exact.{so-sectors}
 use Rattle.image.proofs.Stays.{so-mark}
-use Rattle.reads.specs.Asked.{value}
 use Rattle.reads.specs.Card.{readShell, readDirectory, readTable, elements}
 use Rattle.reads.specs.Entry.{There, refusal, readEntry, readChain}
 use Rattle.reads.specs.Ticket as ticket

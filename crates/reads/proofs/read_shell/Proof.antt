@@ -1,7 +1,6 @@
 -- `reads::read_shell` meets its contract: the shell stands from byte 4 on. Assumes nothing.
-use mathlib.Core.Path.{_≡_, refl, sym, ap, ap₂, _∙_}
+use mathlib.Core.Path.{sym, _∙_}
 use native.Mathlib.Omega.{arith}
-use Rattle.shell.specs.Encode.{decodeOf}
 use Rattle.image.specs.Image.{shellValues}
 use Rattle.image.proofs.Accepted.{Open, accepted-open, refused-shut}
 use Rattle.reads.specs.Card.{readShell}

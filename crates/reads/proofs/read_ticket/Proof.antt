@@ -1,7 +1,7 @@
 -- `reads::read_ticket` meets its contract: the buffer is filled only where every check has passed, and what is read is read of the first sector. Assumes nothing.
-use mathlib.Core.Path.{_≡_, refl, sym, ap, ap₂, _∙_}
+use mathlib.Core.Path.{refl, sym, ap, ap₂, _∙_}
 use native.Mathlib.Omega.{arith}
-use Prim.Native.Nat.{ℕ, _+_, _-_, _*_}
+use Prim.Native.Nat.{_+_, _-_, _*_}
 use lib.ListN.{length}
 use Rattle.bits.proofs.Laws.{field-below}
 use Rattle.fields.specs.declared.Layout.the-variants.{Header, Typ23}

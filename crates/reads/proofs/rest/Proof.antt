@@ -1,5 +1,5 @@
 -- `reads::rest` meets its contract: what `fill` answered tells the end, and what the buffer holds. Assumes nothing.
-use mathlib.Core.Path.{_≡_, refl, sym, ap, ap₂, _∙_}
+use mathlib.Core.Path.{refl, sym, ap, _∙_}
 use native.Mathlib.Omega.{arith}
 use lib.ListN.{length}
 use Rattle.reads.proofs.TwoCalls.{Ending, fill-ends, fill-barred, rest-none, rest-nowhere, rest-from, after-length, rest-part}
