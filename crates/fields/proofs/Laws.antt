@@ -3,18 +3,16 @@
 use mathlib.Core.Path.{_≡_, refl, sym, ap, ap₂, _∙_}
 use mathlib.Core.Logic.{_⊎_, inl, inr, ⊎-elim}
 use mathlib.Core.List.{List, [], _∷_}
-use mathlib.Core.Bool.{Bool, true, false, cond}
 use Prim.Native.Nat.{ℕ, zero, suc, _+_, _-_, _*_, _^_, _≤_, _<_}
 use native.Mathlib.Nat.{le-of-suc-le-suc, not-suc-le-zero}
-use native.Mathlib.Decide.{decLt}
 use native.Mathlib.Omega.{arith}
-use lib.Dec.{T, ltb}
+use lib.Dec.{T}
 use lib.ListN.{length, getD, set, length-set}
 use lib.Seq.{ext-getD, getD-set-same, getD-set-other}
 use lib.Pow.{pow-pos}
 use borrow.Author.Tests.{lt-ltb, le-ltb}
 use Rattle.bits.specs.Bits.{Bytes, bit, field, store}
-use Rattle.bits.proofs.Laws.{Outside, lt-or-le, bit-past, ext, digit-field, field-lt, field-store, field-store-apart, store-field, length-store, bytes-store, bit-store-in, bit-store-out}
+use Rattle.bits.proofs.Laws.{lt-or-le, bit-past, ext, digit-field, field-lt, field-store, field-store-apart, store-field, length-store, bytes-store, bit-store-in, bit-store-out}
 use Rattle.fields.specs.declared.Span.{Span}
 use Rattle.fields.specs.Lists.{joined, nth}
 use Rattle.fields.specs.Fields.{fields, stores, limitOf, limits, above, lowest}
@@ -77,6 +75,13 @@ bit-stores-out a (p ∷ ps) e t l (v ∷ vs) i o =
     let r = ends (a + p .1) ps e (tail-of a p ps e t) in
     bit-stores-out (a + p .1) ps e (tail-of a p ps e t) (store l (p .0) (p .1) v) vs i (⊎-elim (λ h. inl (omega arith)) (λ h. inr h) o)
     ∙ bit-store-out l (p .0) (p .1) v i (⊎-elim (λ h. inl (omega arith)) (λ h. inr (omega arith)) o)
+
+-- nor by a store of one of its fields
+pub bit-store-outside : (a : ℕ) (ps : List Span) (e : ℕ) → T (joined a ps e) → (l : List ℕ) (v n i : ℕ) → n < length ps → (i < a) ⊎ (e ≤ i)
+    → bit (store l (nth ps n .0) (nth ps n .1) v) i ≡ bit l i
+bit-store-outside a ps e t l v n i h o =
+    let w = within a ps e t n h in
+    bit-store-out l (nth ps n .0) (nth ps n .1) v i (⊎-elim (λ z. inl (omega (arith, w .0))) (λ z. inr (omega (arith, w .1))) o)
 
 -- a field before the list stays
 pub field-before : (a : ℕ) (ps : List Span) (e : ℕ) → T (joined a ps e) → (l vs : List ℕ) (q u : ℕ) → q + u ≤ a

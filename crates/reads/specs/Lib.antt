@@ -1,0 +1,6 @@
+pub mod Asked
+pub mod Card
+pub mod Entry
+pub mod Ticket
+pub mod Checks
+pub mod Says
