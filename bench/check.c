@@ -8,21 +8,31 @@ struct answer {
     size number, entry, table;
 };
 
+/* eight bytes at a time, then two, then one */
 static unsigned crc(const byte *s, size n) {
-    unsigned at = 0xFFFF;
-    size i = 0;
+    size at = 0xFFFF, i = 0;
+    for (; i + 8 <= n; i += 8) {
+        size w;
+        __builtin_memcpy(&w, s + i, 8);
+        size x = at ^ w;
+        size y = x ^ x << 32;
+        size z = y ^ y << 16 ^ y << 44;
+        size v = z ^ z << 8 ^ z << 22 ^ z << 32;
+        size q = v ^ v << 4 ^ v << 11 ^ v << 16;
+        at = q >> 48 ^ q >> 53 ^ q >> 60;
+    }
     for (; i + 2 <= n; i += 2) {
-        unsigned x = at ^ s[i] ^ (unsigned)s[i + 1] << 8;
-        unsigned u = x ^ x << 4;
-        unsigned q = (u ^ u << 8 ^ x << 11) & 0xFFFF;
+        size x = at ^ s[i] ^ (size)s[i + 1] << 8;
+        size u = x ^ x << 4;
+        size q = (u ^ u << 8 ^ x << 11) & 0xFFFF;
         at = q ^ q >> 5 ^ q >> 12;
     }
     for (; i < n; i++) {
-        unsigned x = (at ^ s[i]) & 0xFF;
-        unsigned t = (x ^ x << 4) & 0xFF;
+        size x = (at ^ s[i]) & 0xFF;
+        size t = (x ^ x << 4) & 0xFF;
         at = at >> 8 ^ t << 8 ^ t << 3 ^ t >> 4;
     }
-    return at ^ 0xFFFF;
+    return (unsigned)at ^ 0xFFFF;
 }
 
 static unsigned above(unsigned w) { return w & (w << 1 | w << 2) & 0x88888888u; }

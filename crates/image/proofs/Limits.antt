@@ -1,10 +1,9 @@
 -- Document 01's bounds: the smallest image that can be accepted has 132 bytes, and the largest 60,439; its chains have at most S - 3 sectors
 -- together. And a broken chain in its words.
 -- Assumes nothing.
-use mathlib.Core.Path.{_≡_, refl}
 use mathlib.Core.Logic.{_↔_}
 use mathlib.Core.List.{List, []}
-use Prim.Native.Nat.{ℕ, _+_, _-_, _*_, _^_, _≤_, _<_}
+use Prim.Native.Nat.{ℕ, _-_, _≤_, _<_}
 use native.Mathlib.Nat.{mul-le-mul}
 use native.Mathlib.Omega.{arith}
 use native.Mathlib.Decide.{decLt}
@@ -14,10 +13,8 @@ use Rattle.chains.specs.Chain.{Distinct, Breaks}
 use Rattle.chains.specs.Products.{together}
 use Rattle.chains.proofs.Together.{together-once, together-few}
 use Rattle.chains.proofs.Broken.{broken-breaks}
-use Rattle.rules.specs.Claim.{Kept}
-use Rattle.image.specs.Image.{S, B, e#, SCTL, isProduct, element}
+use Rattle.image.specs.Image.{S, e#, isProduct, element}
 use Rattle.chains.proofs.PsiLaws.{psi-is}
-use Rattle.image.specs.Rules.{headRules, sizeRules}
 use Rattle.image.specs.Bounds.{Bounds}
 use Rattle.image.specs.Obeys.{Obeys, IsProduct, Broken}
 use Rattle.image.proofs.Exact.{product-sector, tested, obeys-bounds}

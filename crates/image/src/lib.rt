@@ -192,7 +192,8 @@ fn sealed_right(image: &[u8], g: Shape) -> bool
     ensures { λ r. ⌜ r ≡ eqb (SECR (now (image .entry))) (sum.crc (sealed (now (image .entry)))) ⌝ }
 {
     let end = 2 + g.dataset;
-    256 * wide(image[end]) + wide(image[end + 1]) == crc::crc(&image[4..end]) as usize
+    let low = end + 1;
+    256 * wide(image[end]) + wide(image[low]) == crc::crc(&image[4..end]) as usize
 }
 
 // The bits after the chain table's last element.

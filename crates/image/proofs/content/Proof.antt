@@ -1,5 +1,4 @@
 -- `image::content` meets its contract: each test is that of its rule, and the shell's bytes start at byte 4. Assumes nothing.
-use mathlib.Core.Path.{_≡_}
 use Prim.Native.Nat.{_-_, _*_}
 use Rattle.bits.proofs.Laws.{field-drop}
 use Rattle.rules.specs.Claim.{first}

@@ -1,3 +1,4 @@
+-- `image::head` meets its contract: each test is that of its rule. Assumes nothing.
 use borrow.Author.Tests.{lt-leb, le-leb}
 use Rattle.rules.specs.Claim.{first}
 use Rattle.image.specs.Image.{stated, version, copy}

@@ -1,6 +1,5 @@
 -- `image::of_shell` meets its contract: the shell record stands in the bytes from byte 4 on. Assumes nothing.
-use mathlib.Core.Path.{_≡_, sym, _∙_}
-use Prim.Native.Nat.{_^_}
+use mathlib.Core.Path.{sym, _∙_}
 use borrow.Author.Needs.{needs}
 use lib.ListN.{drop}
 use Rattle.bits.proofs.Laws.{field-lt, field-drop}

@@ -1,3 +1,4 @@
+-- `image::sizes` meets its contract: each test is that of its rule, in the order of the rules. Assumes nothing.
 use Rattle.rules.specs.Claim.{first}
 use Rattle.image.specs.Image.{shellValues, dataset, B, S, e#, SCTL}
 use borrow.Author.Needs.{needs}

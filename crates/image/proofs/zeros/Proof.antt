@@ -1,17 +1,13 @@
 -- `image::zeros` meets its contract: the bytes passed carry 0 exactly where each is 0.
 -- Assumes nothing.
-use mathlib.Core.Path.{_≡_, refl, sym}
-use mathlib.Core.Bool.{Bool, true, false, _&&_}
-use mathlib.Core.List.{List}
-use Prim.Native.Nat.{ℕ, zero, suc, _+_, _-_, _*_, _<_, _≤_}
+use mathlib.Core.Path.{_≡_}
+use Prim.Native.Nat.{_+_, _-_, _*_, _≤_}
 use native.Mathlib.Omega.{arith}
-use lib.ListN.{length, getD}
 use lib.Dec.{eqb}
 use borrow.Author.Needs.{needs}
 use Rattle.image.proofs.ZeroBytes.{turn}
-use borrow.Author.Tests.{eq-eqb, ne-eqb, eqb-true, eqb-false}
 use Rattle.bits.specs.Bits.{field}
-use Rattle.bits.proofs.Laws.{field-next, field-zero}
+use Rattle.bits.proofs.Laws.{field-zero}
 use Rattle.image.proofs.zeros.Statement.{statement}
 use Rattle.image.proofs.zeros.Tie as tie
 
