@@ -3,7 +3,7 @@
 use mathlib.Core.Path.{_≡_, refl}
 use mathlib.Core.List.{List, [], _∷_, _++_}
 use Prim.Native.Nat.{ℕ}
-use lib.ListN.{replicate, length, drop}
+use lib.ListN.{replicate, length}
 use lib.Count.{leadingZeros}
 use Rattle.bits.specs.Bits.{digit, bit, number, field, bytes, stored, store}
 use Rattle.fields.specs.Fields.{fields}

@@ -1,10 +1,10 @@
 -- `image::content` meets its contract: each test is that of its rule, and the shell's bytes start at byte 4. Assumes nothing.
-use mathlib.Core.Path.{_≡_}
 use Prim.Native.Nat.{_-_, _*_}
 use Rattle.bits.proofs.Laws.{field-drop}
 use Rattle.rules.specs.Claim.{first}
-use Rattle.image.specs.Image.{shellPad, dataset}
+use Rattle.image.specs.Image.{shellPad, shellValues, dataset}
 use borrow.Author.Needs.{needs}
+use Rattle.fields.specs.Fields.{fields}
 use Rattle.image.proofs.content.Statement.{statement}
 use Rattle.image.proofs.content.Tie as tie
 
@@ -57,7 +57,7 @@ need-requires-6 : tie.Need-need-requires-6
 need-requires-6 c κs = search needs
 
 returns : tie.Need-returns
-unfolding first shellPad
+unfolding first shellPad shellValues fields
 returns c =
     let o = c .before .before .before .before .before .before .before .before .before .before .before .before .before .before .before .before .before in
     let m = o .args .image .now in
