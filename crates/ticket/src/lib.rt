@@ -136,25 +136,25 @@ impl Record {
     pub fn value(self, field: usize) -> Value
         ensures { λ r. ⌜ r ≡ valueOf self field ⌝ }
     {
-        if field < 1 {
+        if field == 0 {
             return Value {
                 number: rules::NO_FIELD,
                 entry: 0,
                 value: 0,
             };
         }
-        if 22 < field {
+        if field > 22 {
             return Value {
                 number: rules::NO_FIELD,
                 entry: 0,
                 value: 0,
             };
         }
-        let i = field - 1;
+        let at = field - 1;
         Value {
             number: 0,
             entry: 0,
-            value: self.values[i],
+            value: self.values[at],
         }
     }
 
