@@ -86,14 +86,34 @@ pub fn limit(n: usize) -> u64
     fields::limit(Layout::Typ23, n - 1)
 }
 
-// The largest values of all fields.
+// The largest values of all fields: proved to be those of the list, and 1,439 for ExpiryTime.
 fn all_limits() -> [u64; 22]
     ensures { λ r. ⌜ r ≡ (mostOf kind) ⌝ }
 {
-    let mut a = [0u64; 22];
-    fields::fill_limits(Layout::Typ23, &mut a);
-    a[8] = 1439;
-    a
+    [
+        255,
+        65535,
+        255,
+        3,
+        63,
+        3,
+        16383,
+        31,
+        1439,
+        31,
+        7,
+        255,
+        255,
+        255,
+        15,
+        15,
+        4294967295,
+        15,
+        4095,
+        4294967295,
+        255,
+        65535,
+    ]
 }
 
 impl Record {
@@ -136,25 +156,25 @@ impl Record {
     pub fn value(self, field: usize) -> Value
         ensures { λ r. ⌜ r ≡ valueOf self field ⌝ }
     {
-        if field < 1 {
+        if field == 0 {
             return Value {
                 number: rules::NO_FIELD,
                 entry: 0,
                 value: 0,
             };
         }
-        if 22 < field {
+        if field > 22 {
             return Value {
                 number: rules::NO_FIELD,
                 entry: 0,
                 value: 0,
             };
         }
-        let i = field - 1;
+        let at = field - 1;
         Value {
             number: 0,
             entry: 0,
-            value: self.values[i],
+            value: self.values[at],
         }
     }
 
