@@ -57,7 +57,7 @@ pub data Act (c : List ℕ) (s : Step) : Type 0 where
   idle : placesOf (seen c (owner s)) s ≡ [] → 1 ≤ answer c s .number → Act c s
   acts : Taken c s → Act c s
 
-kept-first : (p : Product) (s : Step) → first (stepRules p s) ≡ 0 → Kept (stepRules p s)
+pub kept-first : (p : Product) (s : Step) → first (stepRules p s) ≡ 0 → Kept (stepRules p s)
 kept-first p s e = go (found (stepRules p s) (numbered p s)) e
   where
     go : {n : ℕ} → Found (stepRules p s) n → n ≡ 0 → Kept (stepRules p s)
