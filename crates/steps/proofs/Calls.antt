@@ -1,34 +1,31 @@
 -- What the code of a step relies on: what it finds is what the definitions see, its numbers are those of the rules, and what it stores in the
 -- part of one sector is the image after the step. Assumes nothing.
-use mathlib.Core.Path.{_≡_, refl, sym, ap, ap₂, _∙_}
+use mathlib.Core.Path.{_≡_, refl, sym, ap, _∙_}
 use mathlib.Core.Logic.{_≢_}
-use mathlib.Core.List.{List, [], _∷_, _++_}
+use mathlib.Core.List.{List, [], _∷_}
 use mathlib.Core.Bool.{Bool, true, false, true≢false}
 use Prim.Native.Nat.{ℕ, zero, suc, _+_, _-_, _*_, _≤_, _<_}
 use native.Mathlib.Nat.{mul-le-mul}
 use native.Mathlib.Omega.{arith}
-use lib.ListN.{length, getD, drop}
-use lib.Dec.{leb}
+use lib.ListN.{length, drop}
 use borrow.Author.Tests.{le-leb, lt-leb}
-use Rattle.bits.specs.Bits.{Bytes, field, store}
+use Rattle.bits.specs.Bits.{field, store}
 use Rattle.bits.proofs.Laws.{field-drop}
 use Rattle.fields.specs.Lists.{listOf, nth}
 use Rattle.fields.specs.Fields.{limits, lowest, stores}
-use Rattle.fields.proofs.Laws.{lowest-none, lowest-first, First, AllLow}
+use Rattle.fields.proofs.Laws.{lowest-none, lowest-first}
 use Rattle.fields.specs.Shifted.{shifted}
 use Rattle.chains.specs.Chain.{Sector, Walk, found, broken, walk, lastOf}
 use Rattle.chains.specs.Packed.{told}
-use Rattle.chains.specs.declared.Walked.{Walked}
 use Rattle.chains.specs.declared.Walked.the-variants.{End, Broken}
-use Rattle.chains.specs.Products.{chainAt}
 use Rattle.chains.specs.Psi.{Ψ}
 use Rattle.chains.proofs.Laws.{broken-none, last-in, chain-sectors, chain-short}
 use Rattle.rules.specs.Claim.{_≤?_, _and_, Rule, rule, Kept, Fails, here, first}
 use Rattle.rules.proofs.ClaimLaws as CL
 use Rattle.rules.proofs.ClaimLaws.{Numbered, orElse, first-append}
-use Rattle.ticket.specs.Kind.{kind, typ, revision, leastOf, countOf, mostOf, limit, kindRules}
-use Rattle.image.specs.Image.{B, S, e#, sectorAt, directoryAt, tableAt, isProduct, element, chain, sectors, mark, product}
-use Rattle.image.specs.Rules.{Verdict, verdict}
+use Rattle.ticket.specs.Kind.{kind, mostOf, limit, kindRules}
+use Rattle.image.specs.Image.{S, sectorAt, isProduct, element, chain, sectors, mark, product}
+use Rattle.image.specs.Rules.{Verdict}
 use Rattle.image.specs.Obeys.{IsProduct, Obeys}
 use Rattle.image.specs.Shape.{Shaped}
 use Rattle.image.specs.Answer.{checkOf}
@@ -36,7 +33,7 @@ use Rattle.image.specs.declared.Shape.{Shape}
 use Rattle.image.specs.declared.Checked.the-variants as K
 use Rattle.image.specs.Product.{Product, elementAt, productAt, seen}
 use Rattle.image.proofs.Exact.{test-product, product-test, product-sector, exact, accepts}
-use Rattle.image.proofs.Accepted.{Open, Shut, refused-shut, obeys-bounds}
+use Rattle.image.proofs.Accepted.{Open, refused-shut}
 use Rattle.image.proofs.Same.{before-directory}
 use Rattle.image.proofs.Stays.{chain-of}
 use Rattle.image.proofs.First.{product-first, product-size}
@@ -48,7 +45,7 @@ use Rattle.steps.specs.Found.{Sees, Turned, Finds, typIn, headerIn}
 use Rattle.steps.specs.declared.Found.{Found}
 use Rattle.steps.specs.declared.Found.the-variants.{There, Not}
 use Rattle.steps.specs.declared.Answer.the-variants as A
-use Rattle.steps.proofs.Acts.{numbered, Taken, kept-taken, refused-same, next-is, kept-first}
+use Rattle.steps.proofs.Acts.{Taken, kept-taken, refused-same, next-is, kept-first}
 use Rattle.steps.proofs.Exactly.{refuses-exactly}
 
 sub-one : (i : ℕ) → i + 1 - 1 ≡ i

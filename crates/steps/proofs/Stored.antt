@@ -1,7 +1,7 @@
 -- What is stored in the part of one sector, lent on, is stored in the image: the part comes back in its place. Assumes nothing.
-use mathlib.Core.Path.{_≡_, refl, sym, ap, _∙_}
-use mathlib.Core.List.{List, [], _∷_, _++_}
-use Prim.Native.Nat.{ℕ, zero, suc, _+_, _-_, _*_, _%_, _≤_, _<_}
+use mathlib.Core.Path.{_≡_, ap, _∙_}
+use mathlib.Core.List.{List, [], _∷_}
+use Prim.Native.Nat.{ℕ, zero, suc, _+_, _-_, _*_, _≤_, _<_}
 use native.Mathlib.Omega.{arith}
 use lib.ListN.{length, take, drop, length-drop}
 use lib.Seq.{length-take-le, take-all}
@@ -13,14 +13,13 @@ use Rattle.fields.specs.Lists.{listOf, nth}
 use Rattle.fields.specs.Fields.{valueAt, stores}
 use Rattle.fields.specs.declared.Layout.the-variants.{Header}
 use Rattle.fields.specs.Shifted.{shifted}
-use Rattle.fields.proofs.Joined.{place-fits, width-small, lists-joined}
+use Rattle.fields.proofs.Joined.{place-fits, lists-joined}
 use Rattle.fields.proofs.Only.{joined-inside}
 use Rattle.fields.proofs.Parts.{stores-part}
 use Rattle.chains.specs.Chain.{Sector}
 use Rattle.chains.specs.Psi.{Ψ}
 use Rattle.chains.specs.Packed.{Inside}
 use Rattle.chains.specs.Packed as packed
-use Rattle.chains.specs.declared.Table.{Table}
 use Rattle.ticket.specs.Kind.{kind}
 use Rattle.image.specs.Image.{B, S, e#, sectorAt, directoryAt, tableAt}
 use Rattle.image.specs.Shape.{Shaped}

@@ -1,35 +1,26 @@
-use mathlib.Core.Path.{_≡_, refl, sym, ap, _∙_}
+-- `steps::find` meets its contract: the check has refused, or its shape is that of an accepted image. Assumes nothing.
+use mathlib.Core.Path.{sym, _∙_}
 use Rattle.image.proofs.Accepted.{accepted-open}
 use Rattle.steps.proofs.Calls.{shut-turned}
 use borrow.Author.Needs.{needs}
 use Rattle.steps.proofs.find.Statement.{statement}
 use Rattle.steps.proofs.find.Tie as tie
-use Rattle.steps.proofs.find.Reads as reads
-use Rattle.steps.proofs.find.Lts as lts
-use Rattle.image.proofs.check.Reads as check-reads
-use Rattle.steps.proofs.find_in.Reads as find-in-reads
 
--- src/lib.rt:73:11
 check-requires : tie.Need-check-requires
 check-requires c κs = search needs
 
--- src/lib.rt:74:27
 enum-known-g : tie.Need-enum-known-g
 enum-known-g c = search needs
 
--- src/lib.rt:74:33
 find-in-requires : tie.Need-find-in-requires
 find-in-requires c κs = accepted-open _ _ (sym (c .before .before .before .check .ensures) ∙ c .before .g .given .1)
 
--- src/lib.rt:75:26
 enum-known-n : tie.Need-enum-known-n
 enum-known-n c = search needs
 
--- src/lib.rt:70:1
 returns : tie.Need-returns
 returns c = search needs
 
--- src/lib.rt:70:1
 returns-2 : tie.Need-returns-2
 returns-2 c = shut-turned _ _ _ _ (sym (c .before .before .before .check .ensures) ∙ c .before .n .given .1)
 

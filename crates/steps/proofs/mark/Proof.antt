@@ -1,64 +1,49 @@
-use mathlib.Core.Path.{_≡_, refl, sym, ap, _∙_}
+-- `steps::mark` meets its contract: each number is the first rule that fails, and where none does the element is stored. Assumes nothing.
+use mathlib.Core.Path.{_∙_}
 use Rattle.steps.proofs.Calls.{sees-of, turned-of, failed-answer, turned-answer, taken-answer, last-sector, mark-first, mark-taken, mark-stored}
 use Rattle.steps.proofs.Acts.{kept-mark}
 use borrow.Author.Needs.{needs}
 use Rattle.steps.proofs.mark.Statement.{statement}
 use Rattle.steps.proofs.mark.Tie as tie
-use Rattle.steps.proofs.mark.Reads as reads
-use Rattle.steps.proofs.mark.Lts as lts
-use Rattle.steps.proofs.find.Reads as find-reads
-use Rattle.steps.proofs.mark_number.Reads as mark-number-reads
-use Rattle.steps.proofs.store_mark.Reads as store-mark-reads
 
--- src/lib.rt:263:11
 find-requires : tie.Need-find-requires
 find-requires c κs = search needs
 
--- src/lib.rt:264:22
 enum-known-g : tie.Need-enum-known-g
 enum-known-g c = search needs
 
--- src/lib.rt:265:17
 mark-number-requires : tie.Need-mark-number-requires
 mark-number-requires c κs = search needs
 
--- src/lib.rt:267:17
 same-length : tie.Need-same-length
 same-length c = search needs
 
--- src/lib.rt:267:17
 returns : tie.Need-returns
 returns c =
     let s = (sees-of (c .before .before .before .before .before .find .ensures) (c .before .before .before .g .given .1)) in
     failed-answer _ _ _ (s .obeys) (s .is-product) (mark-first s _ _ (c .before .mark-number .ensures)) (c .if1 .taken)
 
--- src/lib.rt:269:13
 store-mark-requires : tie.Need-store-mark-requires
 store-mark-requires c κs =
     let s = (sees-of (c .before .before .before .before .before .before .find .ensures) (c .before .before .before .before .g .given .1)) in
     let t = mark-taken s _ _ (c .before .before .mark-number .ensures) (c .before .if1 .left) in
     (s .shape, (last-sector s, kept-mark _ _ _ t))
 
--- src/lib.rt:272:20
 enum-known-n : tie.Need-enum-known-n
 enum-known-n c = search needs
 
--- src/lib.rt:260:1
 same-length-2 : tie.Need-same-length-2
 same-length-2 c = search needs
 
--- src/lib.rt:260:1
 returns-2 : tie.Need-returns-2
 returns-2 c =
     let s = (sees-of (c .before .before .before .before .before .before .before .before .before .find .ensures) (c .before .before .before .before .before .before .before .g .given .1)) in
     let t = mark-taken s _ _ (c .before .before .before .before .before .mark-number .ensures) (c .before .before .before .before .if1 .left) in
     (taken-answer _ _ t, c .before .before .store-mark .ensures ∙ mark-stored s _ t)
 
--- src/lib.rt:260:1
 same-length-3 : tie.Need-same-length-3
 same-length-3 c = search needs
 
--- src/lib.rt:260:1
 returns-3 : tie.Need-returns-3
 returns-3 c = turned-answer _ _ (turned-of (c .before .before .before .find .ensures) (c .before .n .given .1))
 

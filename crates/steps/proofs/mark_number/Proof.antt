@@ -1,27 +1,21 @@
-use mathlib.Core.Path.{_≡_, refl, sym, ap, _∙_}
+-- `steps::mark_number` meets its contract: the tests are the rules, in their order. Assumes nothing.
 use borrow.Author.Tests.{le-leb, lt-leb}
 use Rattle.rules.specs.Claim.{first}
 use Rattle.steps.proofs.mark_number.Statement.{statement}
 use Rattle.steps.proofs.mark_number.Tie as tie
-use Rattle.steps.proofs.mark_number.Reads as reads
-use Rattle.steps.proofs.mark_number.Lts as lts
 
--- src/lib.rt:165:9
 returns : tie.Need-returns
 unfolding first
 returns c = rw (lt-leb _ _ (c .if1 .taken))
 
--- src/lib.rt:168:9
 returns-2 : tie.Need-returns-2
 unfolding first
 returns-2 c = rw (le-leb _ _ (c .before .if1 .left), lt-leb _ _ (c .if2 .taken))
 
--- src/lib.rt:171:9
 returns-3 : tie.Need-returns-3
 unfolding first
 returns-3 c = rw (le-leb _ _ (c .before .before .if1 .left), le-leb _ _ (c .before .if2 .left), lt-leb _ _ (c .if3 .taken))
 
--- src/lib.rt:161:1
 returns-4 : tie.Need-returns-4
 unfolding first
 returns-4 c = rw (le-leb _ _ (c .before .before .if1 .left), le-leb _ _ (c .before .if2 .left), le-leb _ _ (c .if3 .left))

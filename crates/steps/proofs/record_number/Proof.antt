@@ -1,25 +1,20 @@
+-- `steps::record_number` meets its contract: the lowest bad field is 0 exactly where every value is within its limit. Assumes nothing.
 use lib.ListN.{length}
-use mathlib.Core.Path.{_≡_, refl, sym, ap, _∙_}
+use mathlib.Core.Path.{_≡_}
 use native.Mathlib.Omega.{arith}
 use Rattle.steps.proofs.Calls.{good-record, bad-record}
 use borrow.Author.Needs.{needs}
 use Rattle.steps.proofs.record_number.Statement.{statement}
 use Rattle.steps.proofs.record_number.Tie as tie
-use Rattle.steps.proofs.record_number.Reads as reads
-use Rattle.steps.proofs.record_number.Lts as lts
-use Rattle.ticket.proofs.Record.lowest_bad.Reads as lowest-bad-reads
 
--- src/lib.rt:154:12
 lowest-bad-requires : tie.Need-lowest-bad-requires
 lowest-bad-requires c κs = search needs
 
--- src/lib.rt:155:9
 returns : tie.Need-returns
 returns c =
     let n : length (c .before .before .args .t .values) ≡ 22 = search needs in
     bad-record (c .before .before .args .t .values) n (λ e. omega (arith, c .if1 .taken, c .before .lowest-bad .ensures, e))
 
--- src/lib.rt:151:1
 returns-2 : tie.Need-returns-2
 returns-2 c =
     let n : length (c .before .before .args .t .values) ≡ 22 = search needs in

@@ -1,64 +1,47 @@
+-- `steps::store_field` meets its contract: the part comes back with the field stored, which is the field stored in the image. Assumes nothing.
 use Rattle.steps.proofs.Stored.{field-fits, field-placed}
-use mathlib.Core.Path.{_≡_, refl, sym, ap, _∙_}
 use native.Mathlib.Omega.{arith}
-use Rattle.steps.proofs.Calls.{place-is, sector-within}
+use Rattle.steps.proofs.Calls.{sector-within}
 use borrow.Author.Needs.{needs}
 use Rattle.steps.proofs.store_field.Statement.{statement}
 use Rattle.steps.proofs.store_field.Tie as tie
-use Rattle.steps.proofs.store_field.Reads as reads
-use Rattle.steps.proofs.store_field.Lts as lts
-use Rattle.bits.proofs.put.Reads as put-reads
-use Rattle.fields.proofs.place.Reads as place-reads
 
--- src/lib.rt:182:42
 sub-place : tie.Need-sub-place
 sub-place c = search needs
 
--- src/lib.rt:182:9
 place-requires : tie.Need-place-requires
 place-requires c κs = search needs
 
--- src/lib.rt:183:20
 mul-from : tie.Need-mul-from
 mul-from c = omega (arith, sector-within (c .before .before .before .pre .0) _ (c .before .before .before .pre .1 .0, c .before .before .before .pre .1 .1))
 
--- src/lib.rt:183:16
 add-from : tie.Need-add-from
 add-from c = omega (arith, sector-within (c .before .before .before .pre .0) _ (c .before .before .before .pre .1 .0, c .before .before .before .pre .1 .1))
 
--- src/lib.rt:184:14
 add-to : tie.Need-add-to
 add-to c = omega (arith, sector-within (c .before .before .before .before .pre .0) _ (c .before .before .before .before .pre .1 .0, c .before .before .before .before .pre .1 .1))
 
--- src/lib.rt:185:15
 sub-put : tie.Need-sub-put
 sub-put c = search needs
 
--- src/lib.rt:185:15
 part-put-start : tie.Need-part-put-start
 part-put-start c = search needs
 
--- src/lib.rt:185:15
 part-put-end : tie.Need-part-put-end
 part-put-end c = omega (arith, sector-within (c .before .before .before .before .pre .0) _ (c .before .before .before .before .pre .1 .0, c .before .before .before .before .pre .1 .1))
 
--- src/lib.rt:185:37
 cast-put : tie.Need-cast-put
 cast-put c = search needs
 
--- src/lib.rt:185:51
 cast-put-2 : tie.Need-cast-put-2
 cast-put-2 c = search needs
 
--- src/lib.rt:185:5
 put-requires : tie.Need-put-requires
 put-requires c κs = field-fits (c .before .before .before .before .before .before .before .pre .0) _ _ _ (c .before .before .before .before .before .before .before .pre .1 .0, c .before .before .before .before .before .before .before .pre .1 .1) (c .before .before .before .before .before .before .before .pre .1 .2, c .before .before .before .before .before .before .before .pre .1 .3) (c .before .before .before .before .before .place .ensures)
 
--- src/lib.rt:177:1
 same-length : tie.Need-same-length
 same-length c = search needs
 
--- src/lib.rt:177:1
 returns : tie.Need-returns
 returns c = field-placed (c .before .before .before .before .before .before .before .before .before .before .pre .0) (λ i. c .before .before .before .before .before .before .before .before .before .slice-known .given i .fits) _ _ _ _ _ (c .before .before .before .before .before .before .before .before .before .before .pre .1 .0, c .before .before .before .before .before .before .before .before .before .before .pre .1 .1) (c .before .before .before .before .before .before .before .before .before .before .pre .1 .2, c .before .before .before .before .before .before .before .before .before .before .pre .1 .3) (c .before .before .before .before .before .before .before .before .place .ensures) (c .before .before .put .ensures)
 

@@ -1,48 +1,36 @@
+-- `steps::store_mark` meets its contract: the directory sector comes back with the element stored, which is the element stored in the image. Assumes nothing.
 use Rattle.steps.proofs.Stored.{table-inside, mark-placed}
 use borrow.Author.Needs.{needs}
 use Rattle.steps.proofs.store_mark.Statement.{statement}
 use Rattle.steps.proofs.store_mark.Tie as tie
-use Rattle.steps.proofs.store_mark.Reads as reads
-use Rattle.steps.proofs.store_mark.Lts as lts
-use Rattle.chains.proofs.put_element.Reads as put-element-reads
 
--- src/lib.rt:208:14
 add-to : tie.Need-add-to
 add-to c = search needs
 
--- src/lib.rt:210:21
 mul-put-element : tie.Need-mul-put-element
 mul-put-element c = search needs
 
--- src/lib.rt:210:16
 add-put-element : tie.Need-add-put-element
 add-put-element c = search needs
 
--- src/lib.rt:214:25
 sub-put-element : tie.Need-sub-put-element
 sub-put-element c = search needs
 
--- src/lib.rt:214:25
 part-put-element-start : tie.Need-part-put-element-start
 part-put-element-start c = search needs
 
--- src/lib.rt:214:25
 part-put-element-end : tie.Need-part-put-element-end
 part-put-element-end c = search needs
 
--- src/lib.rt:214:60
 sub-put-element-2 : tie.Need-sub-put-element-2
 sub-put-element-2 c = search needs
 
--- src/lib.rt:214:5
 put-element-requires : tie.Need-put-element-requires
 put-element-requires c κs = table-inside (c .before .before .before .before .before .pre .0) _ (c .before .before .before .before .before .pre .1 .0)
 
--- src/lib.rt:201:1
 same-length : tie.Need-same-length
 same-length c = search needs
 
--- src/lib.rt:201:1
 returns : tie.Need-returns
 returns c = mark-placed (c .before .before .before .before .before .before .before .before .pre .0) (λ i. c .before .before .before .before .before .before .before .slice-known .given i .fits) _ _ _ (c .before .before .before .before .before .before .before .before .pre .1 .0) (c .before .before .put-element .ensures)
 
