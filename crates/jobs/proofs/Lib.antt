@@ -1,3 +1,4 @@
 pub mod Commute
+pub mod Incident
 pub mod Jobs
 pub mod Touched
