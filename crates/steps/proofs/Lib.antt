@@ -5,4 +5,5 @@ pub mod Frame
 pub mod Keeps
 pub mod Stored
 pub mod Touched
+pub mod Unique
 pub mod Written
