@@ -1,6 +1,6 @@
 -- What stays of an image that is altered in one region: the head and shell, the entries, the padding and every table element but one, where
 -- the region spares them. A region within a chain's sector, past a product's header, does, and so does one element. Assumes nothing.
-use mathlib.Core.Path.{_≡_, sym, _∙_}
+use mathlib.Core.Path.{_≡_, refl, sym, ap, _∙_}
 use mathlib.Core.Logic.{_≢_, inl, inr, ⊎-elim}
 use mathlib.Core.List.{List, [], _∷_}
 use Prim.Native.Nat.{ℕ, suc, _+_, _-_, _*_, _≤_, _<_}
