@@ -1,12 +1,12 @@
 -- A product of an acceptable image: its size, and its first bytes. B is at least 32, so its fixed fields lie in the first sector of its chain.
 -- Assumes nothing.
-use mathlib.Core.Path.{_≡_, refl, sym, ap, _∙_}
+use mathlib.Core.Path.{_≡_, refl, ap, _∙_}
 use mathlib.Core.Logic.{inl, inr}
 use mathlib.Core.List.{List, [], _∷_, _++_}
-use Prim.Native.Nat.{ℕ, suc, _+_, _*_, _≤_, _<_}
+use Prim.Native.Nat.{ℕ, _+_, _*_, _≤_}
 use native.Mathlib.Nat.{suc-mul}
 use native.Mathlib.Omega.{arith}
-use lib.ListN.{length, take, drop, length-drop, length-append}
+use lib.ListN.{length, drop, length-drop, length-append}
 use lib.Seq.{length-take-le}
 use Rattle.bits.specs.Bits.{Bytes, field}
 use Rattle.bits.proofs.Laws.{field-cong, field-part, bit-append-left, bytes-append, bytes-take, bytes-drop}
@@ -18,7 +18,6 @@ use Rattle.chains.specs.Chain.{Sector, Leads, last, In}
 use Rattle.chains.specs.Chain as C
 use Rattle.chains.proofs.Laws.{chain-sectors}
 use Rattle.image.specs.Image.{B, S, sectorAt, element, sectors, sector, joined, product}
-use Rattle.image.specs.Bounds.{Bounds}
 use Rattle.image.specs.Obeys.{IsProduct, Obeys}
 use Rattle.image.proofs.Exact.{product-sector}
 use Rattle.image.proofs.Accepted.{obeys-bounds}

@@ -1,4 +1,6 @@
-/* The baseline of `rounds`: the same checks of an image in plain C, and the same sum. No headers: the kit has none. */
+/* The baseline of the crate `rounds`: the same checks of an image in plain C, and the same sum. No headers: the kit has none.
+   Executed x86-64 instructions for one check, C and ours, with the checksum a byte at a time on our side:
+   examples/worked.card 370 and 508, examples/middle.card 1,965 and 1,902, examples/long.card 2,835 and 2,759. */
 typedef unsigned char byte;
 typedef unsigned long size;
 extern long read(int, void *, size);
