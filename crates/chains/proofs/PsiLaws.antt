@@ -6,11 +6,7 @@ use native.Mathlib.Omega.{arith}
 use native.Mathlib.Decide.{decLt}
 use lib.Count.{leadingZeros, leading-top}
 use lib.Pow.{pow-mono}
-use Rattle.chains.specs.Psi.{Ψ, tableBytes}
-
-pub record IsPsi (s p : ℕ) : Type 0 where
-  pub enough : s ≤ 2 ^ p
-  pub least : 2 ^ p < 2 * s
+use Rattle.chains.specs.Psi.{IsPsi, Ψ, tableBytes}
 
 pub psi-is : (s : ℕ) → 2 ≤ s → s ≤ 255 → IsPsi s (Ψ s)
 unfolding Ψ

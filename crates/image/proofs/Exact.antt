@@ -96,7 +96,7 @@ pub obeys-bounds : (c : List ℕ) → Obeys c → Bounds c
 unfolding dataset
 obeys-bounds c o =
     bounds c (o .head, (o .length-stated, (o .version-one, (o .copy-in-force, (o .shell-there, tt)))))
-    (o .full-shell, (o .dataset-least, (o .sectors-least, (o .size-least, (o .entries, (o .table-bytes, (o .directory-fits, (o .dataset-fits, (o .whole, tt)))))))))
+    (o .bit-map-zero, (o .dataset-least, (o .sectors-least, (o .size-least, (o .entries, (o .table-bytes, (o .directory-fits, (o .dataset-fits, (o .whole, tt)))))))))
 
 -- the paddings are zero exactly where each of their bits is
 module _ (c : List ℕ) (b : Bounds c) where
@@ -126,7 +126,7 @@ kept-obeys c k b s =
       version-one = k .1 .1 .0;
       copy-in-force = k .1 .1 .1 .0;
       shell-there = k .1 .1 .1 .1 .0;
-      full-shell = k5 .0;
+      bit-map-zero = k5 .0;
       dataset-least = k5 .1 .0;
       sectors-least = k5 .1 .1 .0;
       size-least = k5 .1 .1 .1 .0;
@@ -149,7 +149,7 @@ pub obeys-kept : (c : List ℕ) → Obeys c → Kept (rules c)
 unfolding rules dataset
 obeys-kept c o =
     let g = obeys-bounds c o in
-    (o .head, (o .length-stated, (o .version-one, (o .copy-in-force, (o .shell-there, (o .full-shell, (o .dataset-least, (o .sectors-least, (o .size-least, (o .entries, (o .table-bytes, (o .directory-fits, (o .dataset-fits, (o .whole, (o .checksum, (o .iin, (o .issn, (o .chd, (shell-zeros c g .1 (o .shell-padding), (table-zeros c g .1 (o .table-padding), tt))))))))))))))))))))
+    (o .head, (o .length-stated, (o .version-one, (o .copy-in-force, (o .shell-there, (o .bit-map-zero, (o .dataset-least, (o .sectors-least, (o .size-least, (o .entries, (o .table-bytes, (o .directory-fits, (o .dataset-fits, (o .whole, (o .checksum, (o .iin, (o .issn, (o .chd, (shell-zeros c g .1 (o .shell-padding), (table-zeros c g .1 (o .table-padding), tt))))))))))))))))))))
 
 -- no product of an acceptable image is broken, and none shares with a lower one
 module _ (c : List ℕ) (o : Obeys c) where

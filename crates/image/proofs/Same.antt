@@ -16,7 +16,7 @@ use Rattle.fields.proofs.Joined.{lists-joined}
 use Rattle.fields.proofs.Only.{joined-inside, fields-same, Only, only-field, only-part}
 use Rattle.chains.specs.Chain.{Sector}
 use Rattle.chains.specs.Psi.{Ψ}
-use Rattle.image.specs.Image.{stated, version, copy, shellValues, dataset, B, S, e#, SCTL, SECR, sealed, sectorAt, directoryAt, tableAt, element}
+use Rattle.image.specs.Image.{stated, version, copy, shellValues, dataset, B, S, e#, SCTL, SECR, beforeSECR, sectorAt, directoryAt, tableAt, element}
 use Rattle.image.specs.Bounds.{Bounds}
 use Rattle.image.specs.Product.{elementAt}
 
@@ -41,7 +41,7 @@ pub record Same (c d : List ℕ) (l : ℕ) : Type 0 where
   pub e#-same : e# d ≡ e# c
   pub SCTL-same : SCTL d ≡ SCTL c
   pub SECR-same : SECR d ≡ SECR c
-  pub sealed-same : sealed d ≡ sealed c
+  pub before-secr-same : beforeSECR d ≡ beforeSECR c
   pub shell-bits-same : (i : ℕ) → i < 8 * B c → bit (drop 4 d) i ≡ bit (drop 4 c) i
   pub padding-bits-same : (i : ℕ) → 8 * tableAt c + Ψ (S c) * (S c - 3) ≤ i → i < 8 * (tableAt c + SCTL c) → bit d i ≡ bit c i
   pub directory-same : directoryAt d ≡ directoryAt c
@@ -100,9 +100,9 @@ module _ {c d : List ℕ} {l a n : ℕ} (b : Bounds c) (o : Only c d a n) (s : S
   unfolding SECR
   SECR-is = rw dataset-is (early-shell (8 * (dataset c - 2)) 16 (omega arith))
 
-  sealed-is : sealed d ≡ sealed c
-  unfolding sealed
-  sealed-is = rw dataset-is (only-part o 4 (dataset c - 2) (inr (omega arith)))
+  before-secr-is : beforeSECR d ≡ beforeSECR c
+  unfolding beforeSECR
+  before-secr-is = rw dataset-is (only-part o 4 (dataset c - 2) (inr (omega arith)))
 
   shell-bits : (i : ℕ) → i < 8 * B c → bit (drop 4 d) i ≡ bit (drop 4 c) i
   shell-bits i h = bit-drop d 4 i ∙ o .outside (32 + i) (inl (omega arith)) ∙ sym (bit-drop c 4 i)
@@ -145,7 +145,7 @@ module _ {c d : List ℕ} {l a n : ℕ} (b : Bounds c) (o : Only c d a n) (s : S
     e#-same = e#-is;
     SCTL-same = SCTL-is;
     SECR-same = SECR-is;
-    sealed-same = sealed-is;
+    before-secr-same = before-secr-is;
     shell-bits-same = shell-bits;
     padding-bits-same = padding-bits;
     directory-same = directory-is;

@@ -84,7 +84,7 @@ module _ {c d : List ℕ} {l m k : ℕ} (o : Obeys c) (q : Same c d l) (old : En
     version-one = q .version-same ∙ o .version-one;
     copy-in-force = omega (arith, q .copy-same, o .copy-in-force);
     shell-there = omega (arith, q .length-same, o .shell-there);
-    full-shell = rw (q .values-same) (o .full-shell);
+    bit-map-zero = rw (q .values-same) (o .bit-map-zero);
     dataset-least = omega (arith, q .dataset-same, o .dataset-least);
     sectors-least = omega (arith, q .S-same, o .sectors-least);
     size-least = omega (arith, q .B-same, o .size-least);
@@ -93,7 +93,7 @@ module _ {c d : List ℕ} {l m k : ℕ} (o : Obeys c) (q : Same c d l) (old : En
     directory-fits = omega (arith, q .e#-same, q .SCTL-same, q .B-same, o .directory-fits);
     dataset-fits = omega (arith, q .dataset-same, q .B-same, o .dataset-fits);
     whole = rw (q .length-same, q .S-same, q .B-same) (o .whole);
-    checksum = rw (q .SECR-same, q .sealed-same) (o .checksum);
+    checksum = rw (q .SECR-same, q .before-secr-same) (o .checksum);
     iin = rw (q .values-same) (o .iin);
     issn = rw (q .values-same) (o .issn);
     chd = rw (q .values-same) (o .chd);

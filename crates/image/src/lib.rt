@@ -12,6 +12,7 @@ use rules::WRONG_SHELL;
 use rules::WRONG_SIZE;
 use rules::WRONG_TABLE;
 use rules::WRONG_VERSION;
+use rules::need;
 ghost use mathlib.Core.Path.{_≡_};
 ghost use Prim.Native.Nat.{_+_, _-_, _*_, _^_, _≤_, _<_};
 ghost use lib.ListN.{length, drop, getD};
@@ -22,7 +23,7 @@ ghost use Rattle.shell.specs.Shell.{decimal};
 ghost use Rattle.chains.specs.Packed.{told, lastLeft};
 ghost use Rattle.rules.specs.Claim.{unless, first, holds};
 ghost use Rattle.rules.specs.Lowest.{lowest};
-ghost use Rattle.image.specs.Image.{SECR, sealed, tablePad, S, e#, isProduct, chain};
+ghost use Rattle.image.specs.Image.{SECR, beforeSECR, tablePad, S, e#, isProduct, chain};
 ghost use Rattle.image.specs.Bounds.{Bounds};
 ghost use Rattle.image.specs.Shape.{shapeOf, Shaped, tableOf};
 ghost use Rattle.image.specs.Answer.{ruledOf, checkOf, chainsOf};
@@ -49,13 +50,6 @@ fn wide(b: u8) -> usize
     ensures { λ r. ⌜ (r ≡ b) × (r < 256) ⌝ }
 {
     b as usize
-}
-
-// The number of a rule that is not kept, or that of the rules after it.
-fn need(number: usize, kept: bool, rest: usize) -> usize
-    ensures { λ r. ⌜ r ≡ unless kept rest number ⌝ }
-{
-    if kept { rest } else { number }
 }
 
 // Numbers 1 to 4.
@@ -187,9 +181,9 @@ fn measure(image: &[u8]) -> Shape
 }
 
 // Whether SECR is that of the bytes before it.
-fn sealed_right(image: &[u8], g: Shape) -> bool
+fn secr_right(image: &[u8], g: Shape) -> bool
     requires { ⌜ Shaped (now image) g ⌝ }
-    ensures { λ r. ⌜ r ≡ eqb (SECR (now (image .entry))) (sum.crc (sealed (now (image .entry)))) ⌝ }
+    ensures { λ r. ⌜ r ≡ eqb (SECR (now (image .entry))) (sum.crc (beforeSECR (now (image .entry)))) ⌝ }
 {
     let end = 2 + g.dataset;
     let low = end + 1;
@@ -215,7 +209,7 @@ fn content(image: &[u8], g: Shape) -> usize
     let chd = need(WRONG_DIGIT, digits(1, of_shell(image, 84, 4)), pad);
     let issn = need(WRONG_DIGIT, digits(7, of_shell(image, 56, 28)), chd);
     let iin = need(WRONG_DIGIT, digits(6, of_shell(image, 16, 24)), issn);
-    need(WRONG_SECR, sealed_right(image, g), iin)
+    need(WRONG_SECR, secr_right(image, g), iin)
 }
 
 // What a check answers.

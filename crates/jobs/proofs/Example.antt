@@ -18,7 +18,7 @@ use Rattle.crc.specs.Crc.{clock, clocks, register, crc}
 use Rattle.rules.specs.Claim.{all, first}
 use Rattle.rules.specs.Lowest.{lowest}
 use Rattle.ticket.specs.Kind.{mostOf}
-use Rattle.image.specs.Image.{stated, version, copy, shellValues, dataset, B, S, e#, SCTL, shellPad, SECR, sealed, sectorAt, directoryAt, entryAt, tableAt, isProduct, element, tablePad, chain, sectors, mark, sector, joined, product}
+use Rattle.image.specs.Image.{stated, version, copy, shellValues, dataset, B, S, e#, SCTL, shellPad, SECR, beforeSECR, sectorAt, directoryAt, entryAt, tableAt, isProduct, element, tablePad, chain, sectors, mark, sector, joined, product}
 use Rattle.image.specs.Rules.{rules, brokenAt, sharesAt, Verdict, verdict}
 use Rattle.image.specs.Product.{elementAt, productAt, seen}
 use Rattle.mixing.specs.Run.{end, log}
@@ -107,7 +107,7 @@ ends-alike =
 
 -- what is to be computed
 judge : List ℕ → Step → Verdict
-unfolding answer seen productAt elementAt stepRules verdict rules first all stated version copy shellValues fields dataset B S e# SCTL shellPad SECR sealed sectorAt directoryAt entryAt tableAt isProduct Ψ tableBytes element tablePad chain sectors mark sector joined product brokenAt sharesAt products.brokenAt products.sharesAt products.member products.meet products.some lowest field number bit digit leadingZeros walk link crc register clocks clock mostOf limits
+unfolding answer seen productAt elementAt stepRules verdict rules first all stated version copy shellValues fields dataset B S e# SCTL shellPad SECR beforeSECR sectorAt directoryAt entryAt tableAt isProduct Ψ tableBytes element tablePad chain sectors mark sector joined product brokenAt sharesAt products.brokenAt products.sharesAt products.member products.meet products.some lowest field number bit digit leadingZeros walk link crc register clocks clock mostOf limits
 judge c s = answer c s
 
 act : List ℕ → Step → List ℕ
