@@ -1,11 +1,11 @@
 -- An example of the theorem: a card with three products and three jobs, with a refused step, a block and a record write among them. Every mix
 -- answers alike, and two mixes end alike; what each step answers is computed from the starting card. Assumes nothing.
-use mathlib.Core.Path.{_≡_, refl, sym, ap, ap₂, _∙_}
+use mathlib.Core.Path.{_≡_, refl, sym, ap, _∙_}
 use mathlib.Core.List.{List, [], _∷_, _++_}
 use mathlib.Core.Bool.{Bool, true, false, _&&_}
-use Prim.Native.Nat.{ℕ, zero, suc, _<_}
+use Prim.Native.Nat.{ℕ, zero, suc}
 use native.Mathlib.Omega.{arith}
-use lib.ListN.{replicate, length, getD}
+use lib.ListN.{replicate}
 use lib.Dec.{T, ltb, ltb→lt}
 use lib.Count.{leadingZeros}
 use Rattle.bits.specs.Bits.{Bytes, digit, bit, number, field, bytes, stored, store}
@@ -22,11 +22,11 @@ use Rattle.image.specs.Image.{stated, version, copy, shellValues, dataset, B, S
 use Rattle.image.specs.Rules.{rules, brokenAt, sharesAt, Verdict, verdict}
 use Rattle.image.specs.Product.{elementAt, productAt, seen}
 use Rattle.mixing.specs.Run.{end, log}
-use Rattle.mixing.specs.Mix.{Mix, Turn, here, there, done, turn, same, Job, lists, concat, Separate, entriesOf}
+use Rattle.mixing.specs.Mix.{Mix, here, there, done, turn, same, Job, lists, Separate, entriesOf}
 use Rattle.steps.specs.Step.{Step, write, writeAll, setMark, owner}
 use Rattle.steps.specs.Steps.{stepRules, says, answer, next}
 use Rattle.steps.proofs.Acts.{refused-same}
-use Rattle.jobs.specs.Demand.{card, Serves}
+use Rattle.jobs.specs.Demand.{card}
 use Rattle.jobs.proofs.Jobs.{jobs-mixed}
 
 -- S 6, B 33, e# 3, copy A, three tickets of TYP 23; the table says that the first is fresh and the others are used, or begins with the byte a

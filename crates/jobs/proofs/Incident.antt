@@ -1,7 +1,7 @@
 -- The incident, by computation: on document 01's table 33 F0 two chains end in the same sector. Without rule 11 the mark of one is the mark of
 -- the other, and the order of two marks shows; with it the card is refused. Assumes nothing.
 use mathlib.Core.Path.{_≡_, refl}
-use mathlib.Core.List.{List, [], _∷_, _++_}
+use mathlib.Core.List.{List, _∷_, _++_}
 use Prim.Native.Nat.{ℕ}
 use lib.ListN.{replicate}
 use lib.Count.{leadingZeros}

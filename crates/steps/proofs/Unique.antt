@@ -7,7 +7,7 @@ use Prim.Native.Nat.{ℕ, zero, suc}
 use native.Mathlib.Omega.{arith}
 use Rattle.rules.specs.Claim.{first}
 use Rattle.image.specs.Image.{isProduct}
-use Rattle.image.specs.Rules.{Verdict, verdict}
+use Rattle.image.specs.Rules.{verdict}
 use Rattle.image.specs.Product.{productAt, seen}
 use Rattle.steps.specs.Step.{Step, owner}
 use Rattle.steps.specs.Steps.{stepRules, answer, next}

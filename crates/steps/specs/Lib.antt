@@ -3,4 +3,5 @@ pub mod Found
 pub mod Refuses
 pub mod Step
 pub mod Steps
+pub mod Together
 pub mod Touched
