@@ -1,1 +1,2 @@
 pub mod ReadAgain
+pub mod Encoded

@@ -2,8 +2,8 @@
 -- Assumes nothing.
 use mathlib.Core.Path.{_≡_, refl, sym, ap, _∙_}
 use mathlib.Core.Logic.{_≢_}
-use mathlib.Core.List.{List}
-use Prim.Native.Nat.{ℕ, _+_, _-_, _≤_, _<_}
+use mathlib.Core.List.{List, [], _∷_}
+use Prim.Native.Nat.{ℕ, _-_, _≤_, _<_}
 use native.Mathlib.Omega.{arith}
 use lib.ListN.{length, getD, set}
 use lib.Seq.{getD-set-same, getD-set-other}
@@ -17,11 +17,11 @@ use Rattle.image.specs.Image.{product, mark}
 use Rattle.image.specs.Product.{Product, productAt}
 use Rattle.reads.specs.Entry.{There}
 use Rattle.reads.specs.Ticket.{readTicket, refusal, timeIn}
-use Rattle.reads.specs.Says.{Cause, late, Fine, Says, refused, taken}
+use Rattle.reads.specs.Says.{Cause, late, Fine, refused, taken}
 use Rattle.reads.proofs.Exactly.{row-given}
 use Rattle.steps.specs.Step.{Step, write, writeAll, owner}
-use Rattle.steps.specs.Steps.{stepRules, writeRules, answer, next}
-use Rattle.rules.specs.Claim.{Kept, Rule}
+use Rattle.steps.specs.Steps.{stepRules, writeRules, fieldRule, recordRule, answer, next}
+use Rattle.rules.specs.Claim.{_≤?_, Kept, Rule, rule}
 use Rattle.steps.proofs.Acts.{Taken, zero-taken, newMark}
 use Rattle.steps.proofs.Keeps.{stays, product-kept-there, mark-own, product-same}
 use Rattle.steps.proofs.Written.{record-read, field-read}
@@ -72,7 +72,7 @@ record-read-again c j vs room b z h =
     let s : Step = writeAll j vs in
     let t = zero-taken c s z in
     let e = record-read c b j vs t in
-    let k = of-kind (productAt c j) room _ (t .kept) h in
+    let k = of-kind (productAt c j) room (recordRule vs ∷ []) (t .kept) h in
     let l : getD vs 8 0 ≤ limit kind 9 = t .kept .1 .1 .1 .1 .1 .0 .1 8 (omega arith) in
     let q : timeIn (next c s) j ≡ getD vs 8 0 = time-is (next c s) j ∙ ap (λ (x : List ℕ). getD x 8 0) e in
     given (next c s) j room vs (early c b s t refl room k (omega (arith, limit-time 9 refl))) e
@@ -86,7 +86,7 @@ field-read-again c j n v room b z h l =
     let s : Step = write j n v in
     let t = zero-taken c s z in
     let e = field-read c b j n v t in
-    let k = of-kind (productAt c j) room _ (t .kept) h in
+    let k = of-kind (productAt c j) room (fieldRule n ∷ rule 26 (v ≤? limit kind n) ∷ []) (t .kept) h in
     let q : timeIn (next c s) j ≡ getD (set (fields (product c j) (listOf kind)) (n - 1) v) 8 0 = time-is (next c s) j ∙ ap (λ (x : List ℕ). getD x 8 0) e in
     given (next c s) j room _ (early c b s t refl room k (omega arith)) e
 
@@ -98,7 +98,7 @@ field-read-late c j n v room b z h l =
     let s : Step = write j n v in
     let t = zero-taken c s z in
     let e = field-read c b j n v t in
-    let k = of-kind (productAt c j) room _ (t .kept) h in
+    let k = of-kind (productAt c j) room (fieldRule n ∷ rule 26 (v ≤? limit kind n) ∷ []) (t .kept) h in
     let q : timeIn (next c s) j ≡ getD (set (fields (product c j) (listOf kind)) (n - 1) v) 8 0 = time-is (next c s) j ∙ ap (λ (x : List ℕ). getD x 8 0) e in
     tardily c b s t refl room k (omega arith)
 
