@@ -2,6 +2,7 @@
 ghost use mathlib.Core.Path.{_≡_};
 ghost use Prim.Native.Nat.{ℕ, _<_, _≤_};
 ghost use Rattle.chains.specs.Chain.{Sector};
+ghost use Rattle.chains.specs.Psi.{Ψ, tableBytes};
 ghost use Rattle.chains.specs.Packed.{Inside, packed, linked, walked, more, countOf, tabled, lastTold};
 
 // A chain table: the bit where it starts, the bits of an element, and the number of sectors.
@@ -22,6 +23,26 @@ pub enum Link {
 pub enum Walked {
     End { last: usize, count: usize, mark: u8 },
     Broken,
+}
+
+// Ψ, from the leading zeros of s - 1.
+pub fn psi(s: usize) -> usize
+    requires { ⌜ (4 ≤ s) × (s ≤ 255) ⌝ }
+    ensures { λ r. ⌜ (r ≡ Ψ s) × (r ≤ 8) ⌝ }
+{
+    let below = s as u32 - 1;
+    (32 - u32::leading_zeros(below)) as usize
+}
+
+// SCTL, the bytes of the table of s sectors.
+pub fn table_bytes(s: usize) -> usize
+    requires { ⌜ s ≤ 255 ⌝ }
+    ensures { λ r. ⌜ r ≡ tableBytes s ⌝ }
+{
+    if s < 4 {
+        return 0;
+    }
+    (psi(s) * (s - 3) + 7) / 8
 }
 
 // The element of sector i.

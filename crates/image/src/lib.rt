@@ -15,7 +15,6 @@ ghost use Rattle.chains.specs.Packed.{told};
 ghost use Rattle.image.specs.Answer.{ruledOf, checkOf, chainsOf};
 ghost use Rattle.image.specs.Rules.{headRules, sizeRules, contentRules, decimal, brokenAt, sharesAt};
 ghost use Rattle.rules.specs.Lowest.{lowest};
-ghost use Rattle.chains.specs.Psi.{Ψ, tableBytes};
 
 // The field of `width` bits at bit `first`, as a size.
 fn at(image: &[u8], first: usize, width: usize) -> usize
@@ -65,25 +64,6 @@ fn whole(s: usize, b: usize) -> usize
     4 + s * b
 }
 
-// Ψ, from the leading zeros of s - 1.
-fn psi(s: usize) -> usize
-    requires { ⌜ (4 ≤ s) × (s ≤ 255) ⌝ }
-    ensures { λ r. ⌜ (r ≡ Ψ s) × (r ≤ 8) ⌝ }
-{
-    let below = s as u32 - 1;
-    (32 - u32::leading_zeros(below)) as usize
-}
-
-fn table_bytes(s: usize) -> usize
-    requires { ⌜ s ≤ 255 ⌝ }
-    ensures { λ r. ⌜ r ≡ tableBytes s ⌝ }
-{
-    if s < 4 {
-        return 0;
-    }
-    (psi(s) * (s - 3) + 7) / 8
-}
-
 // Numbers 5 and 6.
 fn sizes(image: &[u8]) -> usize
     requires { ⌜ 36 ≤ length (now image) ⌝ }
@@ -99,7 +79,7 @@ fn sizes(image: &[u8]) -> usize
     let length = need(6, n == whole(s, b), 0);
     let shell = need(6, dataset <= b, length);
     let directory = need(6, 16 + 5 * e + t <= b, shell);
-    let table = need(6, t == table_bytes(s), directory);
+    let table = need(6, t == chains::table_bytes(s), directory);
     let entries = need(6, (1 <= e) & (e <= minus(s, 3)), table);
     let size = need(6, 32 <= b, entries);
     let sectors = need(6, 4 <= s, size);
@@ -165,7 +145,7 @@ fn measure(image: &[u8]) -> Shape
         sectors: sectors,
         entries: entries,
         bytes: bytes,
-        psi: psi(sectors),
+        psi: chains::psi(sectors),
         directory: directory,
         table: directory + 2 + 5 * entries,
     }

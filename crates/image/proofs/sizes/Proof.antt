@@ -8,7 +8,6 @@ use Rattle.image.proofs.sizes.Lts as lts
 use Rattle.image.proofs.at.Reads as at-reads
 use Rattle.image.proofs.minus.Reads as minus-reads
 use Rattle.image.proofs.need.Reads as need-reads
-use Rattle.image.proofs.table_bytes.Reads as table-bytes-reads
 use Rattle.image.proofs.whole.Reads as whole-reads
 
 -- src/lib.rt:79:23
