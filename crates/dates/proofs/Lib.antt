@@ -1,0 +1,14 @@
+pub mod Joined
+pub mod Every
+pub mod Months
+pub mod Years
+pub mod Days
+pub mod Order
+pub mod Search
+pub mod Bounds
+pub mod ReadOff
+pub mod Judged
+pub mod Exactly
+pub mod Undo
+pub mod Unique
+pub mod Examples

@@ -1,0 +1,5 @@
+pub mod Calendar
+pub mod Counting
+pub mod Stamps
+pub mod DateAnswer
+pub mod StampAnswer
