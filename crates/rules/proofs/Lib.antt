@@ -1,2 +1,3 @@
 pub mod ClaimLaws
 pub mod LowestLaws
+pub mod WrittenLaws
