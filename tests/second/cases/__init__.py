@@ -1,0 +1,1 @@
+"""Cards and calls made for comparing programs."""

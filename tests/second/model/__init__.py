@@ -1,0 +1,1 @@
+"""The rules of document 01 as a readable program."""

@@ -1,0 +1,54 @@
+"""The steps on a product: field write, record write and mark."""
+
+from .bits import write_bits
+from .check import open_card
+from .fields import TICKET, TICKET_END_BIT, TICKET_FIRST_BIT, encode_ticket, record_fits, ticket_value_fits
+from .reads import require_entry, require_ticket
+from .refusal import Refused
+from .table import BLOCKED, USED, element_place, psi
+
+
+def require_writable(card, j):
+    """20, 27, 22, 23: what both writes ask first."""
+    require_entry(card, j)
+    _, mark = card.chains[j]
+    if mark == BLOCKED:
+        raise Refused(27, j)
+    require_ticket(card, j)
+
+
+def write_field(image, j, number, value):
+    """Store one field's bits; 20, 27, 22, 23, 25, 26 in this order."""
+    card = open_card(image)
+    require_writable(card, j)
+    if not 1 <= number <= len(TICKET):
+        raise Refused(25, j)
+    if not ticket_value_fits(number, value):
+        raise Refused(26, j)
+    _, first, width = TICKET[number - 1]
+    # Sector j is the first of the chain, and all fields lie in its first 29 bytes.
+    write_bits(image, 8 * card.place(j) + first, width, value)
+
+
+def write_record(image, j, record):
+    """Store bits 16 to 231; 20, 27, 22, 23, 26 in this order."""
+    card = open_card(image)
+    require_writable(card, j)
+    if not record_fits(record):
+        raise Refused(26, j)
+    start = card.place(j)
+    image[start + TICKET_FIRST_BIT // 8:start + TICKET_END_BIT // 8] = encode_ticket(record)
+
+
+def set_mark(image, j, mark):
+    """Store the chain's last element in the copy in force; 20, 28, 27 in this order."""
+    card = open_card(image)
+    require_entry(card, j)
+    if mark not in (USED, BLOCKED):
+        raise Refused(28, j)
+    sectors, old = card.chains[j]
+    if old == BLOCKED and mark == USED:
+        raise Refused(27, j)
+    element = card.S - 1 if mark == USED else card.S - 2
+    table = card.place(card.directory_sector()) + card.table_place()
+    write_bits(image, 8 * table + element_place(card.S, sectors[-1]), psi(card.S), element)
