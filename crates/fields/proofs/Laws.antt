@@ -78,6 +78,13 @@ bit-stores-out a (p ∷ ps) e t l (v ∷ vs) i o =
     bit-stores-out (a + p .1) ps e (tail-of a p ps e t) (store l (p .0) (p .1) v) vs i (⊎-elim (λ h. inl (omega arith)) (λ h. inr h) o)
     ∙ bit-store-out l (p .0) (p .1) v i (⊎-elim (λ h. inl (omega arith)) (λ h. inr (omega arith)) o)
 
+-- nor by a store of one of its fields
+pub bit-store-outside : (a : ℕ) (ps : List Span) (e : ℕ) → T (joined a ps e) → (l : List ℕ) (v n i : ℕ) → n < length ps → (i < a) ⊎ (e ≤ i)
+    → bit (store l (nth ps n .0) (nth ps n .1) v) i ≡ bit l i
+bit-store-outside a ps e t l v n i h o =
+    let w = within a ps e t n h in
+    bit-store-out l (nth ps n .0) (nth ps n .1) v i (⊎-elim (λ z. inl (omega (arith, w .0))) (λ z. inr (omega (arith, w .1))) o)
+
 -- a field before the list stays
 pub field-before : (a : ℕ) (ps : List Span) (e : ℕ) → T (joined a ps e) → (l vs : List ℕ) (q u : ℕ) → q + u ≤ a
     → field (stores l ps vs) q u ≡ field l q u

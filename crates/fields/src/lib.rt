@@ -1,13 +1,26 @@
 // Lists of fields that meet end to end: one list for each record of the card, and the routines that read and store by a list.
 ghost use mathlib.Core.Path.{_≡_};
 ghost use Prim.Native.Nat.{_*_, _<_, _≤_};
-ghost use lib.ListN.{length};
+ghost use lib.ListN.{length, replicate};
 ghost use Rattle.bits.specs.Bits.{field, store};
 ghost use Rattle.fields.specs.Lists.{listOf, endOf, nth};
-ghost use Rattle.fields.specs.Fields.{fields, stores, limitOf, limits, lowest, storesIf};
+ghost use Rattle.rules.specs.Claim.{holds};
+ghost use Rattle.fields.specs.Fields.{fields, stores, limitOf, limits, lowest, setTold, setIn, fit, packNumber, packIn};
 
 // The first bit and the width of a field.
 pub struct Span(pub u16, pub u16);
+
+// Eight values that follow each other in a list.
+pub struct Eight(
+    pub u64,
+    pub u64,
+    pub u64,
+    pub u64,
+    pub u64,
+    pub u64,
+    pub u64,
+    pub u64,
+);
 
 // The records of the card: each has its own list.
 pub enum Layout {
@@ -121,13 +134,31 @@ pub fn value(s: &[u8], k: Layout, i: usize) -> u64
     bits::get(s, p.0 as usize, p.1 as usize)
 }
 
-// Stores the value of the field i.
-pub fn set(s: &mut [u8], k: Layout, i: usize, v: u64)
+// Stores the low digits of a value in the field i.
+pub fn store_at(s: &mut [u8], k: Layout, i: usize, v: u64)
     requires { ⌜ (i < length (listOf k)) × (endOf k ≤ 8 * length (now s)) ⌝ }
     ensures { λ _. ⌜ now (s .exit) ≡ store (now (s .entry)) (nth (listOf k) i .0) (nth (listOf k) i .1) v ⌝ }
 {
-    let p = place(k, i);
-    bits::put(s, p.0 as usize, p.1 as usize, v)
+    let q = place(k, i);
+    bits::put(s, q.0 as usize, q.1 as usize, v)
+}
+
+// What storing one value answers.
+pub enum Stored {
+    Done,
+    TooLarge,
+}
+
+// Stores a value in the field i where it is at most `most`; else nothing changes.
+pub fn set(s: &mut [u8], k: Layout, i: usize, most: u64, v: u64) -> Stored
+    requires { ⌜ (i < length (listOf k)) × (endOf k ≤ 8 * length (now s)) ⌝ }
+    ensures { λ r. ⌜ (r ≡ setTold most v) × (now (s .exit) ≡ setIn (now (s .entry)) (nth (listOf k) i) most v) ⌝ }
+{
+    if v <= most {
+        store_at(s, k, i, v);
+        return Stored::Done;
+    }
+    Stored::TooLarge
 }
 
 // The largest value of the field i.
@@ -160,7 +191,7 @@ pub fn write(s: &mut [u8], k: Layout, values: &[u64])
     let n = count(k);
     let mut i: usize = 0;
     while i < n {
-        set(s, k, i, values[i]);
+        store_at(s, k, i, values[i]);
         i += 1;
     }
 }
@@ -193,14 +224,40 @@ pub fn first_above(most: &[u64], values: &[u64]) -> usize
     0
 }
 
-// Stores the values of the whole list where none is too wide: 0; else the number, from 1, of the lowest that is, and nothing is stored.
-pub fn encode(s: &mut [u8], k: Layout, most: &[u64], values: &[u64]) -> usize
-    requires { ⌜ (length (now values) ≡ length (listOf k)) × (endOf k ≤ 8 * length (now s)) × (length (now most) ≡ length (now values)) ⌝ }
-    ensures { λ r. ⌜ (r ≡ lowest (now (most .entry)) (now (values .entry))) × (now (s .exit) ≡ storesIf r (now (s .entry)) (listOf k) (now (values .entry))) ⌝ }
+// Zero in every byte.
+pub fn clear(s: &mut [u8])
+    ensures { λ _. ⌜ now (s .exit) ≡ replicate (length (now (s .entry))) 0 ⌝ }
 {
-    let bad = first_above(most, values);
-    if bad == 0 {
-        write(s, k, values);
+    let mut i: usize = 0;
+    while i < s.len() {
+        s[i] = 0;
+        i += 1;
     }
-    bad
+}
+
+// Whether every value is at most the largest of its field.
+pub fn all_fit(k: Layout, values: &[u64]) -> bool
+    requires { ⌜ length (now values) ≡ length (listOf k) ⌝ }
+    ensures { λ r. ⌜ r ≡ holds (fit (listOf k) (now (values .entry))) ⌝ }
+{
+    let n = count(k);
+    let mut ok = true;
+    let mut i: usize = 0;
+    while i < n {
+        ok = ok & (values[i] <= limit(k, i));
+        i += 1;
+    }
+    ok
+}
+
+// Stores the values of the whole list where none is too wide: 0; else 26, and nothing is stored.
+pub fn pack(k: Layout, values: &[u64], out: &mut [u8]) -> usize
+    requires { ⌜ (length (now values) ≡ length (listOf k)) × (endOf k ≤ 8 * length (now out)) ⌝ }
+    ensures { λ r. ⌜ (r ≡ packNumber k (now (values .entry))) × (now (out .exit) ≡ packIn k (now (values .entry)) (now (out .entry))) ⌝ }
+{
+    if all_fit(k, values) {
+        write(out, k, values);
+        return 0;
+    }
+    rules::TOO_LARGE
 }

@@ -1,2 +1,3 @@
 pub mod Claim
 pub mod Lowest
+pub mod Written

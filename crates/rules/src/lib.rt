@@ -1,4 +1,8 @@
 // The numbers that a refusal gives (document 01, "Numbers given back"), each by its name. 0 is success.
+ghost use mathlib.Core.Path.{_≡_};
+ghost use Rattle.rules.specs.Claim.{unless};
+ghost use Rattle.rules.specs.Written.{writtenOf};
+
 pub const WRONG_LENGTH: usize = 1;
 
 pub const WRONG_VERSION: usize = 2;
@@ -47,3 +51,26 @@ pub const NO_STAMP: usize = 30;
 pub const OTHER_SHAPE: usize = 90;
 
 pub const WRONG_FLAGS: usize = 91;
+
+// The number of a rule that is not kept, or that of the rules after it.
+pub fn need(number: usize, kept: bool, rest: usize) -> usize
+    ensures { λ r. ⌜ r ≡ unless kept rest number ⌝ }
+{
+    if kept { rest } else { number }
+}
+
+// What a call that writes into a lent buffer answers.
+pub enum Written {
+    Done,
+    Refused(usize, usize),
+}
+
+// The answer of a call that names no entry.
+pub fn answered(number: usize) -> Written
+    ensures { λ r. ⌜ r ≡ writtenOf number ⌝ }
+{
+    if number == 0 {
+        return Written::Done;
+    }
+    Written::Refused(number, 0)
+}

@@ -12,10 +12,6 @@ use Rattle.fields.proofs.Laws.{length-fields, getD-fields, length-limit
 use Rattle.fields.proofs.Loops.{Filled, fill-start, fill-more, fill-end, stores-more, stores-end, above-more, above-end}
 use Rattle.fields.proofs.write.Statement.{statement}
 use Rattle.fields.proofs.write.Tie as tie
-use Rattle.fields.proofs.write.Reads as reads
-use Rattle.fields.proofs.write.Lts as lts
-use Rattle.fields.proofs.count.Reads as count-reads
-use Rattle.fields.proofs.set.Reads as set-reads
 
 abbrev Inv-loop : tie.InvT-loop
 Inv-loop s₀ k values n i₀ s i = (i ≤ n) × (length s ≡ length s₀) × (stores s (drop i (listOf k)) (drop i values) ≡ stores s₀ (listOf k) values)
@@ -29,14 +25,14 @@ count-requires c κs = search needs
 loop-holds : tie.Need-loop-holds Inv-loop μ-loop
 loop-holds c = (omega arith, refl, refl)
 
-mul-set : tie.Need-mul-set Inv-loop μ-loop
-mul-set c = search needs
+mul-store-at : tie.Need-mul-store-at Inv-loop μ-loop
+mul-store-at c = search needs
 
-shared-slice-read-set : tie.Need-shared-slice-read-set Inv-loop μ-loop
-shared-slice-read-set c = search needs
+shared-slice-read-store-at : tie.Need-shared-slice-read-store-at Inv-loop μ-loop
+shared-slice-read-store-at c = search needs
 
-set-requires : tie.Need-set-requires Inv-loop μ-loop
-set-requires c κs = search needs
+store-at-requires : tie.Need-store-at-requires Inv-loop μ-loop
+store-at-requires c κs = search needs
 
 add-i : tie.Need-add-i Inv-loop μ-loop
 add-i c = search needs
@@ -48,7 +44,7 @@ loop-again : tie.Need-loop-again Inv-loop μ-loop
 loop-again c =
     let a = c .before .before .before .before .before .before .before .before .before .before in
     let l = c .before .before .before .before .before .before .loop in
-    let e = c .before .before .set .ensures in (
+    let e = c .before .before .store-at .ensures in (
       omega arith,
       search needs,
       rw e (sym (stores-more (l .s) (listOf (a .args .k)) (a .args .values .now) (l .i) (omega arith) (omega arith))) ∙ l .inv .2,
@@ -71,9 +67,9 @@ write-spec =
     μ-loop
     count-requires
     loop-holds
-    mul-set
-    shared-slice-read-set
-    set-requires
+    mul-store-at
+    shared-slice-read-store-at
+    store-at-requires
     add-i
     loop-less
     loop-again
