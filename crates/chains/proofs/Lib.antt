@@ -5,6 +5,7 @@ pub mod Places
 pub mod Order
 pub mod Unfold
 pub mod PsiLaws
+pub mod Kept
 pub mod ProductLaws
 pub mod Seen
 pub mod Together

@@ -9,3 +9,6 @@ pub mod Entries
 pub mod Stops
 pub mod Verdict
 pub mod Accepted
+pub mod First
+pub mod Same
+pub mod Stays
