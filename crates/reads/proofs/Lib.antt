@@ -1,0 +1,6 @@
+pub mod Given
+pub mod Order
+pub mod Copied
+pub mod Asked
+pub mod Known
+pub mod Places

@@ -1,0 +1,4 @@
+pub mod Asked
+pub mod Card
+pub mod Entry
+pub mod Ticket
