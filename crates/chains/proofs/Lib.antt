@@ -5,8 +5,8 @@ pub mod Places
 pub mod Order
 pub mod Unfold
 pub mod PsiLaws
-pub mod Kept
 pub mod ProductLaws
 pub mod Seen
 pub mod Together
 pub mod Marks
+pub mod Kept

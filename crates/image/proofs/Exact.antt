@@ -112,7 +112,7 @@ module _ (c : List ℕ) (b : Bounds c) where
       let e : 8 * tableAt c + Ψ (S c) * (S c - 3) + (8 * SCTL c - Ψ (S c) * (S c - 3)) ≡ 8 * (tableAt c + SCTL c) = omega arith in
       rw e at (zeros-field c (8 * tableAt c + Ψ (S c) * (S c - 3)) (8 * SCTL c - Ψ (S c) * (S c - 3)))
 
-kept-obeys : (c : List ℕ) → Kept (rules c) → ((j : ℕ) → Broken c j → ⊥) → ((k : ℕ) → Shares c k → ⊥) → Obeys c
+pub kept-obeys : (c : List ℕ) → Kept (rules c) → ((j : ℕ) → Broken c j → ⊥) → ((k : ℕ) → Shares c k → ⊥) → Obeys c
 unfolding rules dataset
 kept-obeys c k b s =
     let k5 = k .1 .1 .1 .1 .1 in

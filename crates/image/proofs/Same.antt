@@ -2,18 +2,22 @@
 -- the region spares them. A region within a chain's sector, past a product's header, does, and so does one element. Assumes nothing.
 use mathlib.Core.Path.{_≡_, refl, sym, ap, _∙_}
 use mathlib.Core.Logic.{_≢_, inl, inr, ⊎-elim}
-use mathlib.Core.List.{List}
+use mathlib.Core.List.{List, [], _∷_}
 use Prim.Native.Nat.{ℕ, suc, _+_, _-_, _*_, _≤_, _<_}
 use native.Mathlib.Nat.{suc-mul, mul-suc, mul-le-mul-right, mul-le-mul-left}
 use native.Mathlib.Decide.{decLt}
 use native.Mathlib.Omega.{arith}
-use lib.ListN.{length}
+use lib.ListN.{length, drop}
 use Rattle.bits.specs.Bits.{field}
-use Rattle.bits.proofs.Laws.{Apart}
-use Rattle.fields.proofs.Only.{Only, only-field, only-part}
+use Rattle.bits.proofs.Laws.{Apart, field-drop}
+use Rattle.fields.specs.declared.Span.{Span}
+use Rattle.fields.specs.Fields.{fields}
+use Rattle.fields.specs.Lists.{shell}
+use Rattle.fields.proofs.Only.{Inside, joined-inside, Only, only-field, only-part}
+use Rattle.shell.specs.Shell.{datasetOf, sectorBytes, sectorCount, entryCount, tableLength}
 use Rattle.chains.specs.Chain.{Sector}
 use Rattle.chains.specs.Psi.{Ψ}
-use Rattle.image.specs.Image.{stated, version, copy, shell, dataset, shellMap, B, S, e#, SCTL, shellPad, SECR, sealed, sectorAt, directoryAt, entryAt, tableAt, element, tablePad}
+use Rattle.image.specs.Image.{stated, version, copy, shellValues, dataset, B, S, e#, SCTL, shellPad, SECR, sealed, sectorAt, directoryAt, entryAt, tableAt, element, tablePad}
 use Rattle.image.specs.Bounds.{Bounds}
 use Rattle.image.specs.Product.{elementAt}
 
@@ -32,7 +36,7 @@ pub record Same (c d : List ℕ) (l : ℕ) : Type 0 where
   pub version-same : version d ≡ version c
   pub copy-same : copy d ≡ copy c
   pub dataset-same : dataset d ≡ dataset c
-  pub map-same : shellMap d ≡ shellMap c
+  pub values-same : shellValues d ≡ shellValues c
   pub B-same : B d ≡ B c
   pub S-same : S d ≡ S c
   pub e#-same : e# d ≡ e# c
@@ -40,7 +44,6 @@ pub record Same (c d : List ℕ) (l : ℕ) : Type 0 where
   pub pad-same : shellPad d ≡ shellPad c
   pub SECR-same : SECR d ≡ SECR c
   pub sealed-same : sealed d ≡ sealed c
-  pub shell-same : (p w : ℕ) → p + w ≤ 160 → shell d p w ≡ shell c p w
   pub table-pad-same : tablePad d ≡ tablePad c
   pub directory-same : directoryAt d ≡ directoryAt c
   pub table-same : tableAt d ≡ tableAt c
@@ -48,6 +51,12 @@ pub record Same (c d : List ℕ) (l : ℕ) : Type 0 where
   pub elements-same : (i : ℕ) → Sector (S c) i → i ≢ l → element d i ≡ element c i
   pub sector-same : (i : ℕ) → sectorAt d i ≡ sectorAt c i
   pub headers-same : (i p w : ℕ) → Sector (S c) i → p + w ≤ 16 → field d (8 * sectorAt c i + p) w ≡ field c (8 * sectorAt c i + p) w
+
+-- fields that are the same one by one
+fields-cong : (x y : List ℕ) (a n : ℕ) (ps : List Span) → Inside a n ps → ((p w : ℕ) → a ≤ p → p + w ≤ a + n → field x p w ≡ field y p w) → fields x ps ≡ fields y ps
+unfolding fields
+fields-cong x y a n [] h e = refl
+fields-cong x y a n (p ∷ ps) h e = rw (e (p .0) (p .1) (h .0 .0) (h .0 .1), fields-cong x y a n ps (h .1) e)
 
 module _ {c d : List ℕ} {l a n : ℕ} (b : Bounds c) (o : Only c d a n) (s : Spares c l a n) where
   early : (p w : ℕ) → p + w ≤ 8 * (4 + B c) → field d p w ≡ field c p w
@@ -65,37 +74,41 @@ module _ {c d : List ℕ} {l a n : ℕ} (b : Bounds c) (o : Only c d a n) (s : S
   unfolding copy
   copy-is = early 24 8 (omega arith)
 
+  -- a field of the bytes from byte 4 on, within sector 0
+  of-shell : (p w : ℕ) → p + w ≤ 8 * B c → field (drop 4 d) p w ≡ field (drop 4 c) p w
+  of-shell p w h = field-drop d 4 p w ∙ early (32 + p) w (omega arith) ∙ sym (field-drop c 4 p w)
+
+  values-are : shellValues d ≡ shellValues c
+  unfolding shellValues
+  values-are = fields-cong (drop 4 d) (drop 4 c) 0 160 shell (joined-inside 0 shell 160 tt 0 160 (omega arith) (omega arith)) (λ p w h k. of-shell p w (omega arith))
+
   dataset-is : dataset d ≡ dataset c
   unfolding dataset
-  dataset-is = ap (λ (x : ℕ). 4 * x) (early 32 6 (omega arith))
-
-  map-is : shellMap d ≡ shellMap c
-  unfolding shellMap
-  map-is = early 38 6 (omega arith)
+  dataset-is = ap datasetOf values-are
 
   B-is : B d ≡ B c
   unfolding B
-  B-is = early 160 8 (omega arith)
+  B-is = ap sectorBytes values-are
 
   S-is : S d ≡ S c
   unfolding S
-  S-is = early 168 8 (omega arith)
+  S-is = ap sectorCount values-are
 
   e#-is : e# d ≡ e# c
   unfolding e#
-  e#-is = early 176 8 (omega arith)
+  e#-is = ap entryCount values-are
 
   SCTL-is : SCTL d ≡ SCTL c
   unfolding SCTL
-  SCTL-is = early 184 8 (omega arith)
+  SCTL-is = ap tableLength values-are
 
   pad-is : shellPad d ≡ shellPad c
   unfolding shellPad
-  pad-is = rw dataset-is (early 192 (8 * (dataset c - 22)) (omega arith))
+  pad-is = rw dataset-is (of-shell 160 (8 * (dataset c - 22)) (omega arith))
 
   SECR-is : SECR d ≡ SECR c
   unfolding SECR
-  SECR-is = rw dataset-is (early (32 + 8 * (dataset c - 2)) 16 (omega arith))
+  SECR-is = rw dataset-is (of-shell (8 * (dataset c - 2)) 16 (omega arith))
 
   sealed-is : sealed d ≡ sealed c
   unfolding sealed
@@ -134,7 +147,7 @@ module _ {c d : List ℕ} {l a n : ℕ} (b : Bounds c) (o : Only c d a n) (s : S
     version-same = version-is;
     copy-same = copy-is;
     dataset-same = dataset-is;
-    map-same = map-is;
+    values-same = values-are;
     B-same = B-is;
     S-same = S-is;
     e#-same = e#-is;
@@ -142,7 +155,6 @@ module _ {c d : List ℕ} {l a n : ℕ} (b : Bounds c) (o : Only c d a n) (s : S
     pad-same = pad-is;
     SECR-same = SECR-is;
     sealed-same = sealed-is;
-    shell-same = λ p w h. early (32 + p) w (omega arith);
     table-pad-same = table-pad-is;
     directory-same = directory-is;
     table-same = table-is;

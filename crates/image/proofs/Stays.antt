@@ -10,12 +10,12 @@ use native.Mathlib.Nat.{add-zero}
 use native.Mathlib.Omega.{arith}
 use Rattle.bits.specs.Bits.{field}
 use Rattle.chains.specs.Chain.{Sector, Ends, In, Common, Chain, Walk, found, broken, walk, lastOf}
-use Rattle.chains.specs.Psi.{tableBytes}
 use Rattle.chains.proofs.Laws.{found-chain, broken-none, chain-apart, chain-marked}
 use Rattle.chains.proofs.Kept.{chain-kept}
 use Rattle.image.specs.Image.{S, e#, directoryAt, entryAt, isProduct, element, chain, sectors, sectorsOf, mark, markOf}
 use Rattle.image.specs.Obeys.{IsProduct, Broken, Shares, Obeys}
-use Rattle.image.proofs.Exact.{test-product, product-test, product-sector, so-sectors}
+use Rattle.image.specs.Rules.{rules}
+use Rattle.image.proofs.Exact.{test-product, product-test, product-sector, so-sectors, obeys-kept, kept-obeys, none-broken, none-shares}
 use Rattle.image.proofs.Same.{Same}
 
 -- the chain of a product
@@ -28,7 +28,7 @@ chain-of c o {j} v = go (walk (element c) (S c) j (S c - 3)) refl
 
     go : (w : Walk) → walk (element c) (S c) j (S c - 3) ≡ w → Chain (element c) (S c) j (sectorsOf w) (markOf w)
     go (found ss m) q = found-chain (element c) (S c) s .0 q
-    go broken q = absurd (o .none-broken j (record { is-product = v; none = broken-none (element c) (S c) s .0 q }))
+    go broken q = absurd (none-broken c o j (record { is-product = v; none = broken-none (element c) (S c) s .0 q }))
 
 pub so-mark : (c : List ℕ) → e# c ≤ S c - 3 → {j m : ℕ} {ss : List ℕ} → IsProduct c j → Chain (element c) (S c) j ss m → mark c j ≡ m
 unfolding mark chain
@@ -37,8 +37,8 @@ so-mark c fits v d = rw (found-chain (element c) (S c) (product-sector c fits v)
 -- two products have no sector in common
 pub no-common : (c : List ℕ) → Obeys c → {j k : ℕ} → IsProduct c j → IsProduct c k → j ≢ k → Common (sectors c j) (sectors c k) → ⊥
 no-common c o {j} {k} v w d h = elim (decLt j k) [
-  | yes l ↦ o .none-shares k (record { lower = j; below = l; product-lower = v; product-k = w; sectors = sectors c j; mark = mark c j; sectors-k = sectors c k; mark-k = mark c k; chain = chain-of c o v; chain-k = chain-of c o w; common = h })
-  | no l ↦ o .none-shares j (record { lower = k; below = omega arith; product-lower = w; product-k = v; sectors = sectors c k; mark = mark c k; sectors-k = sectors c j; mark-k = mark c j; chain = chain-of c o w; chain-k = chain-of c o v; common = (h .0, h .2, h .1) })
+  | yes l ↦ none-shares c o k (record { lower = j; below = l; product-lower = v; product-k = w; sectors = sectors c j; mark = mark c j; sectors-k = sectors c k; mark-k = mark c k; chain = chain-of c o v; chain-k = chain-of c o w; common = h })
+  | no l ↦ none-shares c o j (record { lower = k; below = omega arith; product-lower = w; product-k = v; sectors = sectors c k; mark = mark c k; sectors-k = sectors c j; mark-k = mark c j; chain = chain-of c o w; chain-k = chain-of c o v; common = (h .0, h .2, h .1) })
 ]
 
 module _ {c d : List ℕ} {l m k : ℕ} (o : Obeys c) (q : Same c d l) (old : Ends (S c) l (element c l) m) (new : Ends (S c) l (element d l) k) where
@@ -80,33 +80,15 @@ module _ {c d : List ℕ} {l m k : ℕ} (o : Obeys c) (q : Same c d l) (old : En
       let w = product-back (h .product-k) in
       let x = chain-back v (rw (q .S-same) at (h .chain)) in
       let y = chain-back w (rw (q .S-same) at (h .chain-k)) in
-      o .none-shares j (record { lower = h .lower; below = h .below; product-lower = v; product-k = w; sectors = h .sectors; mark = x .0; sectors-k = h .sectors-k; mark-k = y .0; chain = x .1; chain-k = y .1; common = h .common })
+      none-shares c o j (record { lower = h .lower; below = h .below; product-lower = v; product-k = w; sectors = h .sectors; mark = x .0; sectors-k = h .sectors-k; mark-k = y .0; chain = x .1; chain-k = y .1; common = h .common })
+
+  -- the rules 1 to 9 look at nothing else
+  rules-same : rules d ≡ rules c
+  unfolding rules
+  rules-same = rw (q .length-same, q .stated-same, q .version-same, q .copy-same, q .values-same, q .dataset-same, q .B-same, q .S-same, q .e#-same, q .SCTL-same, q .pad-same, q .SECR-same, q .sealed-same, q .table-pad-same)
 
   pub obeys : Obeys d
-  obeys = record {
-    head = omega (arith, q .length-same, o .head);
-    length-stated = q .stated-same ∙ o .length-stated ∙ sym (q .length-same);
-    version-one = q .version-same ∙ o .version-one;
-    copy-in-force = omega (arith, q .copy-same, o .copy-in-force);
-    shell-there = omega (arith, q .length-same, o .shell-there);
-    full-shell = q .map-same ∙ o .full-shell;
-    dataset-least = omega (arith, q .dataset-same, o .dataset-least);
-    sectors-least = omega (arith, q .S-same, o .sectors-least);
-    size-least = omega (arith, q .B-same, o .size-least);
-    entries = (omega (arith, q .e#-same, o .entries .0), omega (arith, q .e#-same, q .S-same, o .entries .1));
-    table-bytes = q .SCTL-same ∙ o .table-bytes ∙ ap tableBytes (sym (q .S-same));
-    directory-fits = omega (arith, q .e#-same, q .SCTL-same, q .B-same, o .directory-fits);
-    dataset-fits = omega (arith, q .dataset-same, q .B-same, o .dataset-fits);
-    whole = rw (q .length-same, q .S-same, q .B-same) (o .whole);
-    checksum = rw (q .SECR-same, q .sealed-same) (o .checksum);
-    iin = λ i h. rw (q .shell-same (16 + 4 * i) 4 (omega arith)) (o .iin i h);
-    issn = λ i h. rw (q .shell-same (56 + 4 * i) 4 (omega arith)) (o .issn i h);
-    chd = rw (q .shell-same 84 4 (omega arith)) (o .chd);
-    shell-padding = q .pad-same ∙ o .shell-padding;
-    table-padding = q .table-pad-same ∙ o .table-padding;
-    none-broken = broken-back;
-    none-shares = shares-back;
-  }
+  obeys = kept-obeys d (rw rules-same (obeys-kept c o)) broken-back shares-back
 
   -- every chain has the sectors that it had
   pub sectors-same : {j : ℕ} → IsProduct c j → sectors d j ≡ sectors c j
