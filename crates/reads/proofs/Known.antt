@@ -4,14 +4,14 @@ use mathlib.Core.Bool.{Bool, true, false}
 use mathlib.Core.List.{List, []}
 use Prim.Native.Nat.{ℕ, zero, suc, _+_, _-_, _≤_, _<_}
 use native.Mathlib.Omega.{arith}
-use native.Mathlib.Numerals.{add-one}
 use borrow.Author.Tests.{le-leb, lt-leb}
 use lib.ListN.{length, getD}
 use Rattle.rules.specs.Claim.{Rule, first}
 use Rattle.chains.specs.Chain.{Sector, Chain, Walk, found, broken, walk}
 use Rattle.chains.specs.Packed.{told}
 use Rattle.chains.specs.declared.Walked.the-variants as W
-use Rattle.chains.proofs.Laws.{found-chain, broken-none, leads-short}
+use Rattle.chains.proofs.Laws.{found-chain, broken-none, chain-short}
+use Rattle.chains.proofs.Order.{chain-first, chain-next, chain-sector}
 use Rattle.image.specs.Image.{S, e#, isProduct, element, chain, sectorsOf, markOf, sectors, mark}
 use Rattle.image.specs.Rules.{Verdict, verdict}
 use Rattle.image.specs.Obeys.{Obeys, IsProduct}
@@ -24,9 +24,9 @@ use Rattle.image.specs.declared.Checked.the-variants.{Accepted, Refused}
 use Rattle.image.proofs.Accepted.{Open, accepted-open, Shut, refused-shut}
 use Rattle.image.proofs.Exact.{test-product, product-sector}
 use Rattle.reads.specs.Asked.{judgedBy, asked}
-use Rattle.reads.specs.Entry.{There, refusal, soughtIn, foundIn}
+use Rattle.reads.specs.Entry.{There, refusal, foundIn}
+use Rattle.reads.specs.Checks.{soughtIn}
 use Rattle.reads.specs.declared.Sought.the-variants.{Here, Missing}
-use Rattle.reads.proofs.Order.{leads-start, leads-some, leads-next, leads-at}
 use Rattle.reads.proofs.Asked.{asked-shut, asked-missing, asked-there}
 
 -- the chain of a product of an accepted image is whole
@@ -39,7 +39,7 @@ chain-whole c o {j} v = go (walk (element c) (S c) j (S c - 3)) refl
 
     go : (w : Walk) → walk (element c) (S c) j (S c - 3) ≡ w → Chain (element c) (S c) j (sectorsOf w) (markOf w)
     go (found ss m) q = found-chain (element c) (S c) s .0 q
-    go broken q = absurd (o .none-broken j (record { is-product = v; none = broken-none (element c) (S c) s .0 q }))
+    go broken q = let d = o .chained j v in absurd (broken-none (element c) (S c) s .0 q (d .0) (d .1) (d .2))
 
 -- an image accepted with the shape g, and a product of it
 pub record Known (c : List ℕ) (g : Shape) (j : ℕ) : Type 0 where
@@ -157,16 +157,13 @@ module _ {c : List ℕ} {g : Shape} (s : Shaped c g) {j : ℕ} (t : There c j) w
   there-sector = let b = s .in-bounds in product-sector c (omega arith) (t .product)
 
   pub there-start : getD (sectors c j) 0 0 ≡ j
-  there-start = leads-start (element c) (S c) (t .chain .leads)
+  there-start = chain-first (element c) (S c) (t .chain)
 
   pub there-at : (k : ℕ) → k < length (sectors c j) → Sector (S c) (getD (sectors c j) k 0)
-  there-at = leads-at (element c) (S c) there-sector (t .chain .leads)
+  there-at = chain-sector (element c) (S c) (t .chain) there-sector
 
   pub there-next : (k : ℕ) → k + 1 < length (sectors c j) → element c (getD (sectors c j) k 0) ≡ getD (sectors c j) (k + 1) 0
-  there-next k h = rw (add-one k) (leads-next (element c) (S c) (t .chain .leads) k (omega arith))
-
-  pub there-some : 0 < length (sectors c j)
-  there-some = leads-some (element c) (S c) (t .chain .leads)
+  there-next k h = sym (chain-next (element c) (S c) (t .chain) k h)
 
   pub there-few : length (sectors c j) ≤ S c - 3
-  there-few = leads-short (element c) (S c) there-sector (t .chain .leads)
+  there-few = chain-short (element c) (S c) there-sector (t .chain)

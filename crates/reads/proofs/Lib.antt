@@ -1,5 +1,4 @@
 pub mod Given
-pub mod Order
 pub mod Copied
 pub mod Asked
 pub mod Known

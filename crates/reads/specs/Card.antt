@@ -4,17 +4,12 @@ use mathlib.Core.List.{List, [], _∷_, _++_}
 use lib.ListN.{drop, replicate}
 use Rattle.fields.specs.Fields.{fields}
 use Rattle.fields.specs.Lists.{head, tail}
-use Rattle.shell.specs.Shell.{valuesIn}
-use Rattle.image.specs.Image.{S, SCTL, directoryAt, tableAt, element}
+use Rattle.image.specs.Image.{shellValues, S, SCTL, directoryAt, tableAt, element}
 use Rattle.image.specs.Rules.{verdict}
 use Rattle.reads.specs.Asked.{value, values, over}
 use Rattle.reads.specs.declared.ShellRead.{ShellRead}
 use Rattle.reads.specs.declared.DirectoryRead.{DirectoryRead}
 use Rattle.reads.specs.declared.TableRead.{TableRead}
-
--- "Shell record": the sixteen values from byte 4 on
-abbrev pub shellValues : List ℕ → List ℕ
-shellValues c = valuesIn (drop 4 c)
 
 -- "Directory sector": the three values before the entries, and the four after the chain table
 abbrev pub directoryValues : List ℕ → List ℕ
@@ -29,6 +24,7 @@ counted f i (suc n) = f i ∷ counted f (suc i) n
 abbrev pub elements : List ℕ → List ℕ
 elements c = counted (element c) 1 (S c - 3)
 
+-- "Shell record": its sixteen values
 unfoldable pub readShell : List ℕ → ShellRead
 readShell c =
     record { number = verdict c .number; entry = verdict c .entry; values = values (verdict c .number) 16 (shellValues c) }

@@ -1,6 +1,5 @@
 -- What the reads of one entry and of its chain answer. Assumes nothing.
 use Prim.Native.Nat.{ℕ}
-use mathlib.Core.Bool.{Bool, true, false}
 use mathlib.Core.List.{List, []}
 use lib.ListN.{length, drop, replicate}
 use Rattle.fields.specs.Fields.{fields}
@@ -13,8 +12,6 @@ use Rattle.image.specs.Shape.{shapeOf}
 use Rattle.image.specs.Answer.{answer}
 use Rattle.image.specs.declared.Checked.{Checked}
 use Rattle.reads.specs.Asked.{asked, value, values, over}
-use Rattle.reads.specs.declared.Sought.{Sought}
-use Rattle.reads.specs.declared.Sought.the-variants.{Here, Missing}
 use Rattle.reads.specs.declared.Chained.{Chained}
 use Rattle.reads.specs.declared.EntryRead.{EntryRead}
 use Rattle.reads.specs.declared.ChainRead.{ChainRead}
@@ -26,15 +23,6 @@ refusal c j = asked c j (λ p. [])
 -- "The five bytes of an entry"
 abbrev pub entryValues : List ℕ → ℕ → List ℕ
 entryValues c j = fields (drop (entryAt c j) c) lists.entry
-
--- 20, as the check's own answer, and its number
-abbrev pub soughtIn : Bool → Sought
-soughtIn true = Here
-soughtIn false = Missing
-
-abbrev pub numberOf : Sought → ℕ
-numberOf Here = 0
-numberOf Missing = 20
 
 -- that refusal, or the shape of the image
 unfoldable pub foundIn : List ℕ → ℕ → Checked

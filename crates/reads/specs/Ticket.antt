@@ -6,6 +6,7 @@ use Rattle.rules.specs.Claim.{_≤?_, Rule, rule}
 use Rattle.fields.specs.Fields.{fields, valueAt}
 use Rattle.fields.specs.Lists.{listOf}
 use Rattle.fields.specs.declared.Layout.the-variants.{Entry, Header}
+use Rattle.dates.specs.Stamps.{dayOf}
 use Rattle.ticket.specs.Kind.{kind, limit, restOf, kindRules}
 use Rattle.image.specs.Image.{entryAt, sectors, mark, product}
 use Rattle.image.specs.Rules.{Verdict}
@@ -31,11 +32,6 @@ unfoldable pub refusal : List ℕ → ℕ → ℕ → Verdict
 refusal c j room = asked c j (ticketRules room (timeIn c j))
 
 -- ---- what is given
-
--- "Dates": a stamp is its day, but 0 is day 16,384
-abbrev pub dayOf : ℕ → ℕ
-dayOf zero = 16384
-dayOf (suc n) = suc n
 
 -- "The end of a ticket is day × 1,440 + ExpiryTime, with the entry's EXP as day"
 abbrev pub endOf : List ℕ → ℕ → ℕ

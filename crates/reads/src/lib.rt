@@ -5,18 +5,26 @@ use fields::Layout;
 use image::Checked;
 use image::Shape;
 use rules::NO_PRODUCT;
+use rules::OTHER_KIND;
+use rules::WRONG_EXTENT;
+use rules::WRONG_ROOM;
+use rules::WRONG_TIME;
 ghost use mathlib.Core.Path.{_≡_};
 ghost use mathlib.Core.List.{_++_};
 ghost use Prim.Native.Nat.{_+_, _-_, _*_, _≤_, _<_};
 ghost use lib.ListN.{length, drop};
-ghost use Rattle.fields.specs.Fields.{fields};
+ghost use Rattle.fields.specs.Fields.{fields, valueAt};
 ghost use Rattle.fields.specs.Lists as lists;
 ghost use Rattle.chains.specs.Chain.{Sector};
-ghost use Rattle.image.specs.Image.{S, element, sectors, isProduct};
+ghost use Rattle.dates.specs.Stamps.{dayOf};
+ghost use Rattle.image.specs.Image.{S, entryAt, element, sectors, isProduct, product};
+ghost use Rattle.image.specs.Answer.{checkOf};
 ghost use Rattle.image.specs.Shape.{Shaped, tableOf};
 ghost use Rattle.reads.specs.Asked.{over};
 ghost use Rattle.reads.specs.Card.{readShell, readDirectory, readTable, elements};
-ghost use Rattle.reads.specs.Entry.{readEntry, readChain, There, soughtIn, foundIn, chainedIn};
+ghost use Rattle.reads.specs.Entry.{readEntry, readChain, There, foundIn, chainedIn};
+ghost use Rattle.reads.specs.Ticket.{readTicket, fillOf, bufferAfter, rest, restAt};
+ghost use Rattle.reads.specs.Checks.{soughtIn, roomIn, formIn, extentIn, minutesIn, judgedIn};
 
 // What reading the shell answers.
 #[repr(C)]
@@ -350,5 +358,184 @@ pub fn read_chain(image: &[u8], entry: usize) -> ChainRead
             count: 0,
             sectors: a,
         },
+    }
+}
+
+// 21: whether the buffer holds the product.
+pub enum Room {
+    Fits,
+    Short,
+}
+
+fn check_room(size: usize, room: usize) -> Room
+    ensures { λ r. ⌜ r ≡ roomIn size room ⌝ }
+{
+    if size <= room {
+        Room::Fits
+    } else {
+        Room::Short
+    }
+}
+
+// 22: whether the product is a ticket of the kind.
+pub enum Form {
+    Ticket,
+    Other,
+}
+
+fn check_form(typ: u64, revision: u64) -> Form
+    ensures { λ r. ⌜ r ≡ formIn typ revision ⌝ }
+{
+    if (typ == 23) & (revision == 2) {
+        Form::Ticket
+    } else {
+        Form::Other
+    }
+}
+
+// 23: where the dataset ends.
+pub enum Extent {
+    End(usize),
+    Wrong,
+}
+
+fn check_extent(blocks: usize, size: usize) -> Extent
+    requires { ⌜ blocks < 64 ⌝ }
+    ensures { λ r. ⌜ r ≡ extentIn blocks size ⌝ }
+{
+    let end = 4 * blocks;
+    if (32 <= end) & (end <= size) {
+        Extent::End(end)
+    } else {
+        Extent::Wrong
+    }
+}
+
+// 24: the time of day at which the ticket ends.
+pub enum Time {
+    Minutes(u64),
+    Late,
+}
+
+fn check_time(time: u64) -> Time
+    ensures { λ r. ⌜ r ≡ minutesIn time ⌝ }
+{
+    if time <= ticket::limit(9) {
+        Time::Minutes(time)
+    } else {
+        Time::Late
+    }
+}
+
+// The value i, from 0, of entry j.
+fn entry_value(image: &[u8], g: Shape, j: usize, i: usize) -> u64
+    requires { ⌜ Shaped (now image) g ⌝ }
+    requires { ⌜ (1 ≤ j) × (j ≤ g .entries) × (i < 7) ⌝ }
+    ensures { λ r. ⌜ r ≡ valueAt Layout.Entry i (drop (entryAt (now (image .entry)) j) (now (image .entry))) ⌝ }
+{
+    let at = g.directory + 2 + 5 * (j - 1);
+    fields::value(&image[at..], Layout::Entry, i)
+}
+
+// The value i, from 0, of a record at the front of the product j: it stands in the product's first sector.
+fn product_value(image: &[u8], g: Shape, j: usize, k: Layout, i: usize) -> u64
+    requires { ⌜ Shaped (now image) g ⌝ }
+    requires { ⌜ There (now image) j ⌝ }
+    requires { ⌜ (i < length (lists.listOf k)) × (lists.endOf k ≤ 256) ⌝ }
+    ensures { λ r. ⌜ r ≡ valueAt k i (product (now (image .entry)) j) ⌝ }
+{
+    let start = 4 + j * g.size;
+    fields::value(&image[start..], k, i)
+}
+
+// What the checks of a read found: the shape, the length and mark of the chain, the dataset's end and the time of day.
+pub struct Found {
+    shape: Shape,
+    sectors: usize,
+    mark: usize,
+    extent: usize,
+    minutes: u64,
+}
+
+pub enum Judged {
+    Taken(Found),
+    Refused(usize, usize),
+}
+
+// Numbers 20 to 24, in their order, of an accepted image.
+fn check_ticket(image: &[u8], g: Shape, entry: usize, room: usize) -> Judged
+    requires { ⌜ checkOf (now image) ≡ Checked.Accepted g ⌝ }
+    ensures { λ r. ⌜ r ≡ judgedIn (now (image .entry)) entry room ⌝ }
+{
+    let Sought::Here = check_product(image, g, entry) else {
+        return Judged::Refused(NO_PRODUCT, entry);
+    };
+    let chain = chain_of(image, g, entry);
+    let size = chain.count * g.size;
+    let Room::Fits = check_room(size, room) else {
+        return Judged::Refused(WRONG_ROOM, entry);
+    };
+    let typ = entry_value(image, g, entry, 2);
+    let revision = product_value(image, g, entry, Layout::Header, 2);
+    let Form::Ticket = check_form(typ, revision) else {
+        return Judged::Refused(OTHER_KIND, entry);
+    };
+    let blocks = product_value(image, g, entry, Layout::Header, 0);
+    let Extent::End(extent) = check_extent(blocks as usize, size) else {
+        return Judged::Refused(WRONG_EXTENT, entry);
+    };
+    let time = product_value(image, g, entry, Layout::Typ23, 8);
+    let Time::Minutes(minutes) = check_time(time) else {
+        return Judged::Refused(WRONG_TIME, entry);
+    };
+    Judged::Taken(Found {
+        shape: g,
+        sectors: chain.count,
+        mark: chain.mark,
+        extent: extent,
+        minutes: minutes,
+    })
+}
+
+// The image's own numbers, and then those of the ticket.
+fn judge(image: &[u8], entry: usize, room: usize) -> Judged
+    ensures { λ r. ⌜ r ≡ judgedIn (now (image .entry)) entry room ⌝ }
+{
+    match image::check(image) {
+        Checked::Accepted(g) => check_ticket(image, g, entry, room),
+        Checked::Refused(n, e) => Judged::Refused(n, e),
+    }
+}
+
+// Copies a whole slice onto another of its length.
+fn copy(from: &[u8], to: &mut [u8])
+    requires { ⌜ length (now from) ≡ length (now to) ⌝ }
+    ensures { λ _. ⌜ now (to .exit) ≡ now (from .entry) ⌝ }
+{
+    let mut i: usize = 0;
+    while i < from.len() {
+        to[i] = from[i];
+        i += 1;
+    }
+}
+
+// Copies the product j, of `count` sectors, to the front of the buffer, sector by sector in chain order.
+fn copy_product(image: &[u8], g: Shape, j: usize, count: usize, buffer: &mut [u8])
+    requires { ⌜ Shaped (now image) g ⌝ }
+    requires { ⌜ There (now image) j ⌝ }
+    requires { ⌜ (count ≡ length (sectors (now image) j)) × (count * g .size ≤ length (now buffer)) ⌝ }
+    ensures { λ _. ⌜ now (buffer .exit) ≡ over (product (now (image .entry)) j) (now (buffer .entry)) ⌝ }
+{
+    let size = g.size;
+    let mut i = j;
+    let mut k: usize = 0;
+    while k < count {
+        let from = 4 + i * size;
+        let from_end = from + size;
+        let to = k * size;
+        let to_end = to + size;
+        copy(&image[from..from_end], &mut buffer[to..to_end]);
+        i = element_of(image, g, i);
+        k += 1;
     }
 }

@@ -3,7 +3,7 @@ use mathlib.Core.Path.{_≡_, refl}
 use native.Mathlib.Omega.{arith}
 use Rattle.bits.proofs.Laws.{field-below}
 use Rattle.image.specs.Image.{element}
-use Rattle.image.specs.Shape.{inside}
+use Rattle.image.proofs.Shapes.{inside}
 use Rattle.reads.proofs.Places.{packed-is}
 use borrow.Author.Needs.{needs}
 use Rattle.reads.proofs.element_of.Statement.{statement}

@@ -3,7 +3,6 @@ use mathlib.Core.Path.{_≡_, refl, sym, ap, _∙_}
 use mathlib.Core.Bool.{Bool, true, false}
 use Rattle.image.specs.Image.{isProduct}
 use Rattle.image.proofs.Accepted.{accepted-open}
-use Rattle.reads.specs.Entry.{soughtIn}
 use Rattle.reads.specs.declared.Sought.the-variants.{Here, Missing}
 use Rattle.reads.proofs.Known.{find-shut, find-missing, find-there, sought-here, sought-missing}
 use borrow.Author.Needs.{needs}

@@ -1,6 +1,7 @@
 use mathlib.Core.Path.{_≡_, sym, _∙_}
 use native.Mathlib.Omega.{arith}
 use Rattle.image.proofs.Accepted.{Open, accepted-open, refused-shut}
+use Rattle.image.specs.Image.{shellValues}
 use Rattle.reads.specs.Card.{readShell}
 use Rattle.reads.proofs.Given.{values-refused, none-named}
 use Rattle.reads.proofs.Places.{from-is}
@@ -38,7 +39,7 @@ enum-known-n : tie.Need-enum-known-n
 enum-known-n c = search needs
 
 returns : tie.Need-returns
-unfolding readShell
+unfolding readShell shellValues
 returns c =
     let o = opened (c .before .before) in
     rw (o .number-zero, none-named _ (o .number-zero), c .shell-values .ensures, from-is _ 4)
