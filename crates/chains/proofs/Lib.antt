@@ -1,6 +1,12 @@
 pub mod Broken
 pub mod Distinct
 pub mod Laws
+pub mod Places
+pub mod Order
 pub mod Unfold
-pub mod Ways
 pub mod PsiLaws
+pub mod ProductLaws
+pub mod Seen
+pub mod Together
+pub mod Marks
+pub mod Kept

@@ -1,3 +1,5 @@
 pub mod Chain
 pub mod Psi
 pub mod Packed
+pub mod Products
+pub mod Marks

@@ -1,22 +1,16 @@
 // The walk of a sector chain over a packed table that stands anywhere in a slice.
 ghost use mathlib.Core.Path.{_≡_};
 ghost use Prim.Native.Nat.{ℕ, _<_, _≤_};
-ghost use Rattle.chains.specs.Chain.{Sector};
+ghost use Rattle.bits.specs.Bits.{store};
+ghost use Rattle.chains.specs.Chain.{Sector, walk};
 ghost use Rattle.chains.specs.Psi.{Ψ, tableBytes};
-ghost use Rattle.chains.specs.Packed.{Inside, packed, linked, walked, more, countOf, tabled, lastTold};
+ghost use Rattle.chains.specs.Packed.{Inside, elementAt, packed, walked, tabled, lastLeft, markSaid};
 
 // A chain table: the bit where it starts, the bits of an element, and the number of sectors.
 pub struct Table {
     pub first: usize,
     pub psi: usize,
     pub sectors: usize,
-}
-
-// What an element says: the chain ends with a mark, goes on to a sector, or is broken.
-pub enum Link {
-    End(u8),
-    To(usize),
-    Bad,
 }
 
 // Where a chain ends, after how many sectors, and with which mark (fresh 0, used 1, blocked 2).
@@ -57,71 +51,25 @@ pub fn element(l: &[u8], t: Table, i: usize) -> usize
     bits::pair(l, t.first + t.psi * (i - 1), t.psi) as usize
 }
 
-pub fn says(s: usize, i: usize, x: usize) -> Link
-    requires { ⌜ 4 ≤ s ⌝ }
-    ensures { λ r. ⌜ r ≡ linked s i x ⌝ }
-{
-    if x == i {
-        return Link::End(0);
-    }
-    if x == s - 1 {
-        return Link::End(1);
-    }
-    if x == s - 2 {
-        return Link::End(2);
-    }
-    if 1 <= x {
-        if x <= s - 3 {
-            return Link::To(x);
-        }
-    }
-    Link::Bad
-}
-
-// One sector more.
-pub fn one_more(w: Walked) -> Walked
-    requires { ⌜ countOf w < 256 ⌝ }
-    ensures { λ r. ⌜ r ≡ more w ⌝ }
-{
-    match w {
-        Walked::End { last, count, mark } => Walked::End {
-            last: last,
-            count: count + 1,
-            mark: mark,
-        },
-        Walked::Broken => Walked::Broken,
-    }
-}
-
-// The walk from sector i, with `allowed` sectors still allowed.
-pub fn walk(l: &[u8], t: Table, i: usize, allowed: usize) -> Walked
+// Stores the low digits of x as the element of sector i, and not a bit beside it.
+pub fn put_element(l: &mut [u8], t: Table, i: usize, x: usize)
     requires { ⌜ Inside (now l) t ⌝ }
     requires { ⌜ Sector (t .sectors) i ⌝ }
-    requires { ⌜ allowed < 256 ⌝ }
-    ensures { λ r. ⌜ r ≡ walked (now (l .entry)) t i allowed ⌝ }
+    ensures { λ _. ⌜ now (l .exit) ≡ store (now (l .entry)) (elementAt (t .first) (t .psi) i) (t .psi) x ⌝ }
 {
-    if allowed == 0 {
-        return Walked::Broken;
-    }
-    match says(t.sectors, i, element(l, t, i)) {
-        Link::End(m) => Walked::End {
-            last: i,
-            count: 1,
-            mark: m,
-        },
-        Link::To(x) => one_more(walk(l, t, x, allowed - 1)),
-        Link::Bad => Walked::Broken,
-    }
+    bits::put(l, t.first + t.psi * (i - 1), t.psi, x as u64)
 }
 
-// The last sector of the chain from sector i, with `allowed` sectors still allowed; 256 where it is broken.
+// The walk from sector i, with `allowed` sectors still allowed: the last sector, and 256 for each sector then still allowed; 0 where the
+// chain is broken. One test ends it; which end it is, is looked at afterwards.
 pub fn last(l: &&[u8], first: usize, psi: usize, sectors: usize, i: usize, allowed: usize) -> usize
     requires { ⌜ Inside (now (now l)) (tabled first psi sectors) ⌝ }
     requires { ⌜ Sector sectors i ⌝ }
-    ensures { λ (r : ℕ). ⌜ r ≡ lastTold (walked (now (now (l .entry))) (tabled first psi sectors) i allowed) ⌝ }
+    requires { ⌜ allowed < 256 ⌝ }
+    ensures { λ (r : ℕ). ⌜ r ≡ lastLeft allowed (walk (packed (now (now (l .entry))) first psi) sectors i allowed) ⌝ }
 {
     if allowed == 0 {
-        return 256;
+        return 0;
     }
     let t = Table {
         first: first,
@@ -129,17 +77,41 @@ pub fn last(l: &&[u8], first: usize, psi: usize, sectors: usize, i: usize, allow
         sectors: sectors,
     };
     let x = element(*l, t, i);
-    if x == i {
-        return i;
-    }
-    if x == 0 {
-        return 256;
-    }
-    if sectors - 3 < x {
-        if sectors - 1 < x {
-            return 256;
+    if (x == i) | (x == 0) | (sectors - 3 < x) {
+        if (x != i) & ((x == 0) | (sectors - 1 < x)) {
+            return 0;
         }
-        return i;
+        return i + 256 * (allowed - 1);
     }
     last(l, first, psi, sectors, x, allowed - 1)
+}
+
+// The mark of the element x, which ends a chain at sector i.
+pub fn mark(s: usize, i: usize, x: usize) -> u8
+    requires { ⌜ 1 ≤ s ⌝ }
+    ensures { λ r. ⌜ r ≡ markSaid s i x ⌝ }
+{
+    if x == i {
+        return 0;
+    }
+    if x == s - 1 { 1 } else { 2 }
+}
+
+// What the walk from sector i finds, with `allowed` sectors allowed.
+pub fn walk(l: &[u8], t: Table, i: usize, allowed: usize) -> Walked
+    requires { ⌜ Inside (now l) t ⌝ }
+    requires { ⌜ Sector (t .sectors) i ⌝ }
+    requires { ⌜ allowed < 256 ⌝ }
+    ensures { λ r. ⌜ r ≡ walked (now (l .entry)) t i allowed ⌝ }
+{
+    let r = last(&l, t.first, t.psi, t.sectors, i, allowed);
+    if r == 0 {
+        return Walked::Broken;
+    }
+    let end = r % 256;
+    Walked::End {
+        last: end,
+        count: allowed - r / 256,
+        mark: mark(t.sectors, end, element(l, t, end)),
+    }
 }

@@ -1,2 +1,5 @@
-pub mod Examples
 pub mod Step
+pub mod Linear
+pub mod Many
+pub mod Parts
+pub mod Examples

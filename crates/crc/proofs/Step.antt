@@ -1,15 +1,14 @@
--- Eight clocks at once. The register is linear: what a byte does to it is done to the sum of the byte and the register's low half.
+-- Clocks of the register: data joins it by a sum, and what n clocks do to a sum is the sum of what they do.
 -- Assumes nothing.
 use mathlib.Core.Path.{_≡_, refl, sym, ap, ap₂, _∙_}
 use mathlib.Core.Bool.{Bool, true, false, cond}
 use Prim.Native.Nat.{ℕ, zero, suc, _+_, _-_, _*_, _/_, _%_, _^_, _<_, _≤_}
-use native.Mathlib.Nat.{pow-succ'}
+use native.Mathlib.Nat.{pow-succ', zero-add, suc-add, mul-assoc, div-div-eq-div-mul}
 use native.Mathlib.Omega.{arith}
-use native.Mathlib.Decide.{ℕ-discrete}
 use lib.Arith.{bin-ind}
-use lib.Dec.{eqb, T, eqb→eq}
+use lib.Dec.{eqb}
 use lib.Bits.{bitXor, differ, xor-step, xor-zero-r, xor-comm, xor-lt, xor-self, xor-shifted, xor-shr}
-use Rattle.crc.specs.Crc.{clock, clocks}
+use Rattle.crc.specs.Crc.{polynomial, clock, clocks}
 
 -- ---- sums of binary digits
 
@@ -53,13 +52,13 @@ swap a b c = assoc a b c ∙ ap (bitXor a) (xor-comm b c) ∙ sym (assoc a c b)
 -- the polynomial is added where the digit is 1
 abbrev sel : ℕ → ℕ → ℕ
 sel zero h = h
-sel (suc x) h = bitXor h 0x8408
+sel (suc x) h = bitXor h polynomial
 
 clock-sel : (r d : ℕ) → d < 2 → clock r d ≡ sel (differ (r % 2) d) (r / 2)
 unfolding clock
 clock-sel r d h = go (r % 2) d (omega arith) h
   where
-    go : (x y : ℕ) → x < 2 → y < 2 → cond (eqb x y) (r / 2) (bitXor (r / 2) 0x8408) ≡ sel (differ x y) (r / 2)
+    go : (x y : ℕ) → x < 2 → y < 2 → cond (eqb x y) (r / 2) (bitXor (r / 2) polynomial) ≡ sel (differ x y) (r / 2)
     go zero zero h k = refl
     go zero (suc zero) h k = refl
     go zero (suc (suc y)) h k = absurd (omega arith)
@@ -70,7 +69,7 @@ clock-sel r d h = go (r % 2) d (omega arith) h
 
 sel-in : (x p q : ℕ) → bitXor (sel x p) q ≡ sel x (bitXor p q)
 sel-in zero p q = refl
-sel-in (suc x) p q = swap p 0x8408 q
+sel-in (suc x) p q = swap p polynomial q
 
 differ-zero : (x : ℕ) → differ x 0 ≡ x
 differ-zero zero = refl
@@ -89,12 +88,12 @@ clock-in r b =
 
 sel-sum : (x y p q : ℕ) → x < 2 → y < 2 → sel (differ x y) (bitXor p q) ≡ bitXor (sel x p) (sel y q)
 sel-sum zero zero p q h k = refl
-sel-sum zero (suc zero) p q h k = assoc p q 0x8408
+sel-sum zero (suc zero) p q h k = assoc p q polynomial
 sel-sum zero (suc (suc y)) p q h k = absurd (omega arith)
-sel-sum (suc zero) zero p q h k = swap p q 0x8408
+sel-sum (suc zero) zero p q h k = swap p q polynomial
 sel-sum (suc zero) (suc zero) p q h k =
-    sym (xor-zero-r (bitXor p q)) ∙ ap (bitXor (bitXor p q)) (sym (xor-self 0x8408)) ∙ sym (assoc (bitXor p q) 0x8408 0x8408)
-    ∙ ap (λ (x : ℕ). bitXor x 0x8408) (swap p q 0x8408) ∙ assoc (bitXor p 0x8408) q 0x8408
+    sym (xor-zero-r (bitXor p q)) ∙ ap (bitXor (bitXor p q)) (sym (xor-self polynomial)) ∙ sym (assoc (bitXor p q) polynomial polynomial)
+    ∙ ap (λ (x : ℕ). bitXor x polynomial) (swap p q polynomial) ∙ assoc (bitXor p polynomial) q polynomial
 sel-sum (suc zero) (suc (suc y)) p q h k = absurd (omega arith)
 sel-sum (suc (suc x)) y p q h k = absurd (omega arith)
 
@@ -117,72 +116,34 @@ unfolding clocks
 clocks-sum zero a c = refl
 clocks-sum (suc n) a c = ap (clocks n 0) (clock-sum a c) ∙ clocks-sum n (clock a 0) (clock c 0)
 
-clock-even : (h : ℕ) → clock (2 * h) 0 ≡ h
-clock-even h = clock-zero (2 * h) ∙ ap₂ sel {x = 2 * h % 2} {y = 0} (omega arith) (omega arith)
+-- the register has sixteen bits
+clock-lt : (r d : ℕ) → r < 2 ^ 16 → clock r d < 2 ^ 16
+unfolding clock
+clock-lt r d h = go (eqb (r % 2) d)
+  where
+    go : (b : Bool) → cond b (r / 2) (bitXor (r / 2) polynomial) < 2 ^ 16
+    go true = omega arith
+    go false = xor-lt 16 (r / 2) polynomial (omega arith) (omega arith)
 
-pub clocks-high : (n h : ℕ) → clocks n 0 (h * 2 ^ n) ≡ h
+pub clocks-lt : (n b r : ℕ) → r < 2 ^ 16 → clocks n b r < 2 ^ 16
 unfolding clocks
-clocks-high zero h = omega arith
-clocks-high (suc n) h =
-    let e : h * 2 ^ suc n ≡ 2 * (h * 2 ^ n) = rw (pow-succ' 2 n) (omega arith) in
-    ap (λ (x : ℕ). clocks n 0 (clock x 0)) e ∙ ap (clocks n 0) (clock-even (h * 2 ^ n)) ∙ clocks-high n h
+clocks-lt zero b r h = h
+clocks-lt (suc n) b r h = clocks-lt n (b / 2) (clock r (b % 2)) (clock-lt r (b % 2) h)
 
--- ---- a byte: a test of all 256
+-- m clocks and then n more
+pub clocks-add : (m n b r : ℕ) → clocks (m + n) b r ≡ clocks n (b / 2 ^ m) (clocks m b r)
+unfolding clocks
+clocks-add zero n b r = let e : b / 2 ^ 0 ≡ b = omega arith in rw (e, zero-add n)
+clocks-add (suc m) n b r =
+    let e : b / 2 / 2 ^ m ≡ b / 2 ^ suc m = div-div-eq-div-mul b 2 (2 ^ m) ∙ ap (λ (k : ℕ). b / k) (sym (pow-succ' 2 m)) in
+    rw (suc-add m n) (clocks-add m n (b / 2) (clock r (b % 2)) ∙ ap (λ (k : ℕ). clocks n k (clocks m (b / 2) (clock r (b % 2)))) e)
 
-abbrev both : Bool → Bool → Bool
-both true b = b
-both false b = false
-
-abbrev every : ℕ → (ℕ → Bool) → Bool
-every zero f = true
-every (suc n) f = both (f n) (every n f)
-
-both-left : (a b : Bool) → T (both a b) → T a
-both-left true b t = tt
-both-left false b t = t
-
-both-right : (a b : Bool) → T (both a b) → T b
-both-right true b t = t
-both-right false b t = absurd t
-
-abbrev pub mixed : ℕ → ℕ
-mixed x = bitXor x (x % 16 * 16)
-
-abbrev pub spread : ℕ → ℕ
-spread t = bitXor (t % 256 * 256) (bitXor (t * 8) (t / 16))
-
-from-every : (n : ℕ) (f : ℕ → Bool) → T (every n f) → (k : ℕ) → k < n → T (f k)
-from-every zero f t k h = absurd (omega arith)
-from-every (suc n) f t k h =
-    elim (ℕ-discrete k n) [
-      | yes e ↦ rw e (both-left (f n) (every n f) t)
-      | no d ↦ from-every n f (both-right (f n) (every n f) t) k (omega arith)
-    ]
-
-right : ℕ → Bool
-right x = eqb (clocks 8 0 x) (spread (mixed x))
-
-all-right : T (every 256 right)
-unfolding right clocks clock
-all-right = tt
-
-pub low-byte : (x : ℕ) → x < 256 → clocks 8 0 x ≡ spread (mixed x)
-unfolding right
-low-byte x h = eqb→eq (clocks 8 0 x) (spread (mixed x)) (from-every 256 right all-right x h)
-
-pub byte-law : (r b : ℕ) → b < 256 → bitXor (bitXor (bitXor (r / 256) (mixed (bitXor (r % 256) b) % 256 * 256)) (mixed (bitXor (r % 256) b) * 8)) (mixed (bitXor (r % 256) b) / 16) ≡ clocks 8 b r
-byte-law r b h =
-    let x : ℕ = bitXor (r % 256) b in
-    let t : ℕ = mixed x in
-    let s : r / 256 * 256 + r % 256 ≡ r = omega arith in
-    assoc (bitXor (r / 256) (t % 256 * 256)) (t * 8) (t / 16)
-    ∙ assoc (r / 256) (t % 256 * 256) (bitXor (t * 8) (t / 16))
-    ∙ ap₂ bitXor (sym (clocks-high 8 (r / 256))) (sym (low-byte x (xor-lt 8 (r % 256) b (omega arith) h)))
-    ∙ sym (clocks-sum 8 (r / 256 * 256) x)
-    ∙ ap (clocks 8 0) (sym (assoc (r / 256 * 256) (r % 256) b) ∙ ap (λ (y : ℕ). bitXor y b) (xor-shifted (r / 256) 8 (r % 256) (omega arith) ∙ s))
-    ∙ sym (clocks-in 8 b r h)
-
-pub mixed-lt : (r b : ℕ) → b < 256 → mixed (bitXor (r % 256) b) < 256
-mixed-lt r b h =
-    let x : ℕ = bitXor (r % 256) b in
-    xor-lt 8 x (x % 16 * 16) (xor-lt 8 (r % 256) b (omega arith) h) (omega arith)
+-- n clocks look at n digits
+pub clocks-more : (n b l r : ℕ) → clocks n (b + 2 ^ n * l) r ≡ clocks n b r
+unfolding clocks
+clocks-more zero b l r = refl
+clocks-more (suc n) b l r =
+    let e : 2 ^ suc n * l ≡ 2 * (2 ^ n * l) = rw (pow-succ' 2 n) (mul-assoc 2 (2 ^ n) l) in
+    let p : (b + 2 ^ suc n * l) % 2 ≡ b % 2 = omega arith in
+    let q : (b + 2 ^ suc n * l) / 2 ≡ b / 2 + 2 ^ n * l = omega arith in
+    rw (p, q) (clocks-more n (b / 2) l (clock r (b % 2)))

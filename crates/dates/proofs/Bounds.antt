@@ -1,20 +1,21 @@
 -- A date has a stamp, or is impossible, too early or too late: 2 January 1997 is day 1 and 10 November 2041 day 16,384, and numbers rise with dates.
 -- Assumes nothing.
 use mathlib.Core.Path.{_≡_, refl, ap, sym, subst, _∙_}
-use Prim.Native.Nat.{ℕ, _+_, _-_, _%_, _≤_, _<_}
+use Prim.Native.Nat.{ℕ, _%_, _≤_, _<_}
 use native.Mathlib.Omega.{arith}
 use native.Mathlib.Decide.{decLt, decLe}
 use Rattle.dates.specs.declared.answers.Date.{Date}
 use Rattle.dates.specs.declared.answers.Stamped.the-variants.{At, Refused}
-use Rattle.dates.specs.Calendar.{date, leap, monthDays, Possible, Before, onDay}
+use Rattle.dates.specs.Calendar.{date, leap, monthDays, Possible, onDay}
 use Rattle.dates.specs.Calendar.Before.{by-year}
 use Rattle.dates.specs.Counting.{daysBefore, newYear, Counted, dayNumber}
 use Rattle.dates.specs.Stamps.{dayOf, stampDate}
-use Rattle.dates.specs.StampAnswer.{sought, Unstamped}
+use Rattle.dates.specs.StampAnswer.{stampOf, Unstamped}
 use Rattle.dates.specs.StampAnswer.Unstamped.{impossible, too-early, too-late}
 use Rattle.dates.proofs.Days.{on-day}
 use Rattle.dates.proofs.Order.{rises, earlier-by, on-number}
-use Rattle.dates.proofs.Search.{day-from, day-to, day-stamp, number-of, one-stamp, found, none}
+use Rattle.dates.proofs.Stamps.{day-from, day-to, day-stamp, number-of, one-stamp}
+use Rattle.dates.proofs.Search.{found, none}
 
 -- a date of the days 1 to 16,384
 pub record Stampable (d : Date) : Type 0 where
@@ -40,7 +41,8 @@ last-counted = omega arith
 
 -- ---- a date that has a stamp, and one that has none
 
-pub takes : (d : Date) → Stampable d → sought d 16384 ≡ At (dayNumber d % 16384)
+pub takes : (d : Date) → Stampable d → stampOf (d .year) (d .month) (d .day) ≡ At (dayNumber d % 16384)
+unfolding stampOf
 takes d h =
     let n : ℕ = dayNumber d in
     let e : stampDate (n % 16384) ≡ d = ap onDay (day-stamp n (h .from) (h .to)) ∙ on-number d (h .counted) in
@@ -60,7 +62,8 @@ never-both d (impossible p) h = p (h .counted .possible)
 never-both d (too-early l) h = omega (arith, rises d (date 1997 1 2) (h .counted) first-counted l, first-number, h .from)
 never-both d (too-late l) h = omega (arith, rises (date 2041 11 10) d last-counted (h .counted) l, last-number, h .to)
 
-pub refuses : (d : Date) → Unstamped d → sought d 16384 ≡ Refused 29 0
+pub refuses : (d : Date) → Unstamped d → stampOf (d .year) (d .month) (d .day) ≡ Refused 29 0
+unfolding stampOf
 refuses d u = none d 16384 (λ t k e. never-both d u (subst Stampable e (stamps t k)))
 
 -- ---- each date is of one kind or the other

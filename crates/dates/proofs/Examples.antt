@@ -1,7 +1,6 @@
 -- Document 01's examples of dates by hand. A date's number is computed by adding, 45 years of twelve months; counting gives the same (Days, Order).
 -- Assumes nothing.
-use mathlib.Core.Path.{_≡_, refl, ap, sym, _∙_}
-use Prim.Native.Nat.{ℕ, _≤_}
+use mathlib.Core.Path.{_≡_}
 use native.Mathlib.Omega.{arith}
 use Rattle.dates.specs.declared.answers.Dated.the-variants.{On}
 use Rattle.dates.specs.declared.answers.Stamped.the-variants.{At}
@@ -9,7 +8,7 @@ use Rattle.dates.specs.Calendar.{date, leap, monthDays}
 use Rattle.dates.specs.Counting.{daysBefore, newYear, dayNumber}
 use Rattle.dates.specs.DateAnswer.{dateOf}
 use Rattle.dates.specs.StampAnswer.{stampOf}
-use Rattle.dates.proofs.Bounds.{Stampable, takes}
+use Rattle.dates.proofs.Bounds.{takes}
 use Rattle.dates.proofs.Undo.{undo}
 
 pub record Examples : Type 0 where

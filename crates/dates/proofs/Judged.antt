@@ -1,7 +1,7 @@
 -- The two tests that the code puts to a date, and the stamp of a date that passes: a date that fails one is impossible, too early or too late.
 -- Assumes nothing.
 use mathlib.Core.Path.{_≡_, sym}
-use mathlib.Core.Bool.{Bool, true, false, _||_}
+use mathlib.Core.Bool.{true, false, _||_}
 use Prim.Native.Nat.{ℕ, _%_, _≤_}
 use native.Mathlib.Omega.{arith}
 use lib.Dec.{ltb}
@@ -16,45 +16,43 @@ use Rattle.dates.proofs.Joined.{either, neither}
 use Rattle.dates.proofs.Months.{has-days}
 use Rattle.dates.proofs.Bounds.{takes, refuses, early, late}
 
--- of the year y, the day d and the days k of the month
-abbrev outside : ℕ → ℕ → ℕ → Bool
-outside y d k = ltb y 1997 || ltb 2041 y || ltb d 1 || ltb k d
-
 module _ (y m d : ℕ) where
   refused : Unstamped (date y m d) → Refused 29 0 ≡ stampOf y m d
   refused u = sym (refuses (date y m d) u)
 
-  module _ (k : ℕ) (days : k ≡ monthDays y m) where
-    pub no-date : outside y d k ≡ true → Refused 29 0 ≡ stampOf y m d
-    no-date e =
+  -- the first test, of a year from a to b and a day from f to the month's last, k
+  module _ (k : ℕ) (days : k ≡ monthDays y m) (a b f : ℕ) where
+    pub no-date : ltb y a || ltb b y || ltb d f || ltb k d ≡ true → (a ≤ 1997) × (2041 ≤ b) × (f ≤ 1) → Refused 29 0 ≡ stampOf y m d
+    no-date e h =
         refused
-        (either _ (ltb k d)
-        (either _ (ltb d 1)
-        (either (ltb y 1997) (ltb 2041 y)
-        (λ a. too-early (by-year (ltb-true y 1997 a)))
-        (λ a. too-late (by-year (ltb-true 2041 y a))))
-        (λ a. impossible (λ p. omega (arith, ltb-true d 1 a))))
-        (λ a. impossible (λ p. omega (arith, ltb-true k d a)))
+        (either (ltb y a || ltb b y || ltb d f) (ltb k d)
+        (either (ltb y a || ltb b y) (ltb d f)
+        (either (ltb y a) (ltb b y)
+        (λ t. too-early (by-year (omega (arith, ltb-true))))
+        (λ t. too-late (by-year (omega (arith, ltb-true)))))
+        (λ t. impossible (λ p. omega (arith, ltb-true))))
+        (λ t. impossible (λ p. omega (arith, ltb-true)))
         e)
 
-    pub a-date : outside y d k ≡ false → Counted (date y m d) × (y ≤ 2041)
-    a-date e =
-        let (abc, l) = neither (ltb y 1997 || ltb 2041 y || ltb d 1) (ltb k d) e in
-        let (ab, c) = neither (ltb y 1997 || ltb 2041 y) (ltb d 1) abc in
-        let (a, b) = neither (ltb y 1997) (ltb 2041 y) ab in
-        let h : 1 ≤ monthDays y m = omega (arith, ltb-false) in
-        omega (arith, ltb-false, has-days y m h)
+    pub a-date : ltb y a || ltb b y || ltb d f || ltb k d ≡ false → (1997 ≤ a) × (b ≤ 2041) × (1 ≤ f) → Counted (date y m d) × (y ≤ 2041)
+    a-date e h =
+        let (uvw, x) = neither (ltb y a || ltb b y || ltb d f) (ltb k d) e in
+        let (uv, w) = neither (ltb y a || ltb b y) (ltb d f) uvw in
+        let (u, v) = neither (ltb y a) (ltb b y) uv in
+        let l : 1 ≤ monthDays y m = omega (arith, ltb-false) in
+        omega (arith, ltb-false, has-days y m l)
 
-  module _ (n : ℕ) (h : Counted (date y m d)) (number : n ≡ dayNumber (date y m d)) where
-    pub no-stamp : ltb n 1 || ltb 16384 n ≡ true → Refused 29 0 ≡ stampOf y m d
-    no-stamp e =
+  -- the second, of a number from a to b
+  module _ (n : ℕ) (h : Counted (date y m d)) (number : n ≡ dayNumber (date y m d)) (a b : ℕ) where
+    pub no-stamp : ltb n a || ltb b n ≡ true → (a ≤ 1) × (16384 ≤ b) → Refused 29 0 ≡ stampOf y m d
+    no-stamp e k =
         refused
-        (either (ltb n 1) (ltb 16384 n)
-        (λ a. early (date y m d) h (omega (arith, ltb-true n 1 a)))
-        (λ a. late (date y m d) h (omega (arith, ltb-true 16384 n a)))
+        (either (ltb n a) (ltb b n)
+        (λ t. early (date y m d) h (omega (arith, ltb-true)))
+        (λ t. late (date y m d) h (omega (arith, ltb-true)))
         e)
 
-    pub stamped : ltb n 1 || ltb 16384 n ≡ false → At (n % 16384) ≡ stampOf y m d
-    stamped e =
-        let (a, b) = neither (ltb n 1) (ltb 16384 n) e in
+    pub stamped : ltb n a || ltb b n ≡ false → (1 ≤ a) × (b ≤ 16384) → At (n % 16384) ≡ stampOf y m d
+    stamped e k =
+        let (u, v) = neither (ltb n a) (ltb b n) e in
         rw number (sym (takes (date y m d) (record { counted = h; from = omega (arith, ltb-false); to = omega (arith, ltb-false) })))

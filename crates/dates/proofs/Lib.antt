@@ -1,9 +1,12 @@
 pub mod Joined
 pub mod Every
 pub mod Months
+pub mod Listed
+pub mod MonthHolds
 pub mod Years
 pub mod Days
 pub mod Order
+pub mod Stamps
 pub mod Search
 pub mod Bounds
 pub mod ReadOff

@@ -1,12 +1,12 @@
 -- A date before another has the smaller number: a month's days end before the next month begins, and a year's before the next year.
 -- So a date is found again by its number. Assumes nothing.
-use mathlib.Core.Path.{_≡_, refl, ap, sym, subst, _∙_}
+use mathlib.Core.Path.{_≡_, ap, sym}
 use Prim.Native.Nat.{ℕ, zero, suc, _+_, _-_, _≤_, _<_}
 use native.Mathlib.Nat.{add-zero, add-suc}
 use native.Mathlib.Omega.{arith}
 use native.Mathlib.Decide.{decLt}
 use Rattle.dates.specs.declared.answers.Date.{Date}
-use Rattle.dates.specs.Calendar.{date, monthDays, Possible, Before, onDay}
+use Rattle.dates.specs.Calendar.{date, monthDays, Before, onDay}
 use Rattle.dates.specs.Calendar.Before.{by-year, by-month, by-day}
 use Rattle.dates.specs.Counting.{daysBefore, newYear, Counted, dayNumber}
 use Rattle.dates.proofs.Months.{before-next}

@@ -1,56 +1,15 @@
--- The search among the stamps gives the one stamp whose date it is: no two stamps have one date, for their day numbers differ.
--- Assumes nothing.
+-- The search among the stamps gives a stamp whose date it is, and 29 where none has it: it tries each stamp once. Assumes nothing.
 use mathlib.Core.Path.{_≡_, refl, ap, sym, _∙_}
-use mathlib.Core.Bool.{Bool, true, false, cond, _&&_, and-eq-true-iff, false≢true}
-use Prim.Native.Nat.{ℕ, zero, suc, _%_, _≤_, _<_}
+use mathlib.Core.Bool.{Bool, true, false, _&&_, and-eq-true-iff, false≢true}
+use Prim.Native.Nat.{ℕ, zero, suc, _<_}
 use native.Mathlib.Omega.{arith}
-use native.Mathlib.Decide.{ℕ-discrete}
 use borrow.Author.Tests.{eqb-true, eq-eqb}
 use lib.Dec.{eqb}
 use Rattle.dates.specs.declared.answers.Date.{Date}
-use Rattle.dates.specs.declared.answers.Stamped as S
 use Rattle.dates.specs.declared.answers.Stamped.the-variants.{At, Refused}
-use Rattle.dates.specs.Calendar.{date, onDay}
-use Rattle.dates.specs.Counting.{dayNumber}
-use Rattle.dates.specs.Stamps.{dayOf, stampDate}
+use Rattle.dates.specs.Calendar.{date}
+use Rattle.dates.specs.Stamps.{stampDate}
 use Rattle.dates.specs.StampAnswer.{same, sought}
-use Rattle.dates.proofs.Days.{number-on}
-
--- ---- the day number of a stamp
-
-pub day-itself : (s : ℕ) → 1 ≤ s → dayOf s ≡ s
-day-itself zero h = absurd (omega arith)
-day-itself (suc s) h = refl
-
-pub day-from : (s : ℕ) → 1 ≤ dayOf s
-day-from zero = omega arith
-day-from (suc s) = omega arith
-
-pub day-to : (s : ℕ) → s < 16384 → dayOf s ≤ 16384
-day-to zero h = omega arith
-day-to (suc s) h = omega arith
-
--- day n is that of the stamp n, but day 16,384 that of the stamp 0
-pub day-stamp : (n : ℕ) → 1 ≤ n → n ≤ 16384 → dayOf (n % 16384) ≡ n
-day-stamp n h k =
-    elim (ℕ-discrete n 16384) [
-      | yes e ↦ let z : n % 16384 ≡ 0 = omega arith in ap dayOf z ∙ sym e
-      | no d ↦ let z : n % 16384 ≡ n = omega arith in ap dayOf z ∙ day-itself n h
-    ]
-
-one-day : (s t : ℕ) → s < 16384 → t < 16384 → dayOf s ≡ dayOf t → s ≡ t
-one-day zero zero h k e = refl
-one-day zero (suc t) h k e = absurd (omega arith)
-one-day (suc s) zero h k e = absurd (omega arith)
-one-day (suc s) (suc t) h k e = e
-
-pub number-of : (s : ℕ) → dayNumber (stampDate s) ≡ dayOf s
-number-of s = number-on (dayOf s)
-
-pub one-stamp : (s t : ℕ) → s < 16384 → t < 16384 → stampDate s ≡ stampDate t → s ≡ t
-one-stamp s t h k e = one-day s t h k (sym (number-of s) ∙ ap dayNumber e ∙ number-of t)
-
--- ---- the search
 
 same-is : (a b : Date) → same a b ≡ true → a ≡ b
 same-is a b e =

@@ -1,39 +1,38 @@
 -- An answer is determined, for its contract is an equation; and number, entry and values tell it from every other answer of the call, for no refusal has the number 0.
 -- Assumes nothing.
-use mathlib.Core.Path.{_≡_, refl, ap, sym, _∙_}
-use mathlib.Core.Bool.{Bool, true, false, cond}
+use mathlib.Core.Path.{_≡_}
 use Prim.Native.Nat.{ℕ}
 use native.Mathlib.Omega.{arith}
-use lib.Dec.{ltb}
-use Rattle.dates.specs.declared.answers.Date.{Date}
+use native.Mathlib.Decide.{decLt}
 use Rattle.dates.specs.declared.answers.Dated as D
 use Rattle.dates.specs.declared.answers.Dated.the-variants.{On, Refused as NoDate}
 use Rattle.dates.specs.declared.answers.Stamped as S
 use Rattle.dates.specs.declared.answers.Stamped.the-variants.{At, Refused as NoStamp}
 use Rattle.dates.specs.Calendar.{date}
-use Rattle.dates.specs.Stamps.{dayOf, stampDate}
+use Rattle.dates.specs.Stamps.{dayOf}
 use Rattle.dates.specs.DateAnswer as A
 use Rattle.dates.specs.StampAnswer as B
+use Rattle.dates.proofs.Stamps.{taken, refused}
 use Rattle.dates.proofs.Bounds.{takes, refuses, sorted}
 use Rattle.dates.proofs.Bounds.Sorted.{unstamped, stampable}
 
-pub one-day : (s p q : ℕ) → p ≡ dayOf s → q ≡ dayOf s → p ≡ q
-one-day s p q e f = cc
+pub day-unique : (s p q : ℕ) → p ≡ dayOf s → q ≡ dayOf s → p ≡ q
+day-unique s p q e f = cc
 
-pub one-date : (s : ℕ) (p q : D.Dated) → p ≡ A.dateOf s → q ≡ A.dateOf s → p ≡ q
-one-date s p q e f = cc
+pub date-unique : (s : ℕ) (p q : D.Dated) → p ≡ A.dateOf s → q ≡ A.dateOf s → p ≡ q
+date-unique s p q e f = cc
 
-pub one-stamp : (y m d : ℕ) (p q : S.Stamped) → p ≡ B.stampOf y m d → q ≡ B.stampOf y m d → p ≡ q
-one-stamp y m d p q e f = cc
+pub stamp-unique : (y m d : ℕ) (p q : S.Stamped) → p ≡ B.stampOf y m d → q ≡ B.stampOf y m d → p ≡ q
+stamp-unique y m d p q e f = cc
 
 -- ---- number, entry and values tell answers apart
 
 numbered-date : (s n e : ℕ) → NoDate n e ≡ A.dateOf s → n ≡ 30
-numbered-date s n e = go (ltb 16383 s)
-  where
-    go : (b : Bool) → NoDate n e ≡ cond b (NoDate 30 0) (On (stampDate s)) → n ≡ 30
-    go true q = cc
-    go false q = cc
+numbered-date s n e q =
+    elim (decLt 16383 s) [
+      | yes h ↦ let r = refused s h in cc
+      | no h ↦ let r = taken s (omega arith) in cc
+    ]
 
 numbered-stamp : (y m d n e : ℕ) → NoStamp n e ≡ B.stampOf y m d → n ≡ 29
 numbered-stamp y m d n e q =

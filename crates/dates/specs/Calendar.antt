@@ -1,4 +1,4 @@
--- The calendar, said as a calendar: leap years, the days of a month, the day after a date, and the dates of days counted from 1 January 1997.
+-- The calendar, said as a calendar (document 01, "Dates"): leap years, the days of a month, the day after a date, and the dates of days counted.
 -- Assumes nothing.
 use mathlib.Core.Path.{_≡_}
 use mathlib.Core.Bool.{Bool, _&&_, _||_, not, cond}

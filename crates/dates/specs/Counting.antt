@@ -1,4 +1,4 @@
--- The number of a day by adding the days of the years and the months before it; that it is the same number is proved (proofs/Days).
+-- The number of a day by adding the days of the years and the months before it (document 01, "Dates"). Counting gives the same (proofs/Days).
 -- Assumes nothing.
 use Prim.Native.Nat.{ℕ, zero, suc, _+_, _-_, _≤_, _<_}
 use Rattle.dates.specs.declared.answers.Date.{Date}

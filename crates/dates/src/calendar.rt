@@ -6,21 +6,22 @@ ghost use Rattle.dates.specs.Counting.{daysBefore, newYear, Counted, day
 use crate::answers::Date;
 
 // The days of a common year before each month, and last all its days.
-const BEFORE: [u64; 13] = [0, 31, 59, 90, 120, 151, 181, 212, 243, 273, 304, 334, 365];
+const BEFORE: [u16; 13] = [0, 31, 59, 90, 120, 151, 181, 212, 243, 273, 304, 334, 365];
 
-pub fn is_leap(year: u64) -> bool
+// Every fourth year, but a hundredth one only where it is a four hundredth.
+fn is_leap(year: u64) -> bool
     ensures { λ r. ⌜ r ≡ leap year ⌝ }
 {
     (year % 4 == 0) & ((year % 100 != 0) | (year % 400 == 0))
 }
 
 // The days of the year before its month; before month 13, all its days.
-pub fn days_before(year: u64, month: u64) -> u64
+fn days_before(year: u64, month: u64) -> u64
     requires { ⌜ (1 ≤ month) × (month ≤ 13) ⌝ }
     ensures { λ r. ⌜ r ≡ daysBefore year month ⌝ }
 {
     let i = (month - 1) as usize;
-    BEFORE[i] + ((2 < month) & is_leap(year)) as u64
+    BEFORE[i] as u64 + ((2 < month) & is_leap(year)) as u64
 }
 
 // The days of a month; 0 where there is no such month.
@@ -34,7 +35,7 @@ pub fn month_days(year: u64, month: u64) -> u64
 }
 
 // The day number of 1 January.
-pub fn new_year(year: u64) -> u64
+fn new_year(year: u64) -> u64
     requires { ⌜ (1997 ≤ year) × (year ≤ 2041) ⌝ }
     ensures { λ r. ⌜ r ≡ newYear (year - 1997) ⌝ }
 {
@@ -51,15 +52,15 @@ pub fn day_number(d: Date) -> u64
 }
 
 // The year that holds the day `n`.
-pub fn year_of(n: u64) -> u64
+fn year_of(n: u64) -> u64
     requires { ⌜ n ≤ 16384 ⌝ }
     ensures { λ r. ⌜ InYear n r ⌝ }
 {
     1997 + (4 * n + 3) / 1461
 }
 
-// The month of the year that holds its day `d`, counted from 0.
-pub fn month_of(year: u64, d: u64) -> u64
+// The month of the year that holds its day `d`, counted from 0: as no month has 32 days, the one tried first or the next.
+fn month_of(year: u64, d: u64) -> u64
     requires { ⌜ d < daysBefore year 13 ⌝ }
     ensures { λ r. ⌜ InMonth year d r ⌝ }
 {

@@ -9,6 +9,7 @@ use native.Mathlib.Omega.{arith}
 use lib.ListN.{length, getD, replicate, length-replicate}
 use lib.Dec.{T}
 use Rattle.bits.specs.Bits.{Bytes}
+use Rattle.bits.proofs.Zeros.{bytes-zeros}
 use Rattle.rules.specs.Claim.{Means, holds, Fails, here, later, first}
 use Rattle.rules.proofs.ClaimLaws.{holds-means, means-holds, false-means}
 use Rattle.fields.specs.declared.Layout.{Layout}
@@ -16,11 +17,6 @@ use Rattle.fields.specs.declared.Span.{Span}
 use Rattle.fields.specs.Lists.{listOf, nth, joined}
 use Rattle.fields.specs.Fields.{fields, stores, storesIf, limitOf, fit, packRules, packNumber, packIn, packed}
 use Rattle.fields.proofs.Laws.{Fit, fields-stores, stores-whole, fit-fields}
-
-pub zeros-bytes : (n : ℕ) → Bytes (replicate n 0)
-zeros-bytes zero k = omega arith
-zeros-bytes (suc n) zero = omega arith
-zeros-bytes (suc n) (suc k) = zeros-bytes n k
 
 -- every value fits: 0; one does not: 26
 pub taken-fit : (k : Layout) (vs : List ℕ) → Means (fit (listOf k) vs) → packNumber k vs ≡ 0
@@ -77,5 +73,5 @@ module _ (k : Layout) (n : ℕ) (t : T (joined 0 (listOf k) (8 * n))) where
       let u : T (joined 0 (listOf k) (8 * length b)) = rw e t in (
         z,
         stored (packNumber k (fields b (listOf k))) (replicate n 0) (listOf k) (fields b (listOf k)) z
-            ∙ stores-whole (listOf k) (replicate n 0) b u (zeros-bytes n) h (length-replicate {A = ℕ} n 0 ∙ sym e),
+            ∙ stores-whole (listOf k) (replicate n 0) b u (bytes-zeros n) h (length-replicate {A = ℕ} n 0 ∙ sym e),
       )

@@ -1,7 +1,7 @@
 // Lists of fields that meet end to end: one list for each record of the card, and the routines that read and store by a list.
 ghost use mathlib.Core.Path.{_≡_};
 ghost use Prim.Native.Nat.{_*_, _<_, _≤_};
-ghost use lib.ListN.{length};
+ghost use lib.ListN.{length, replicate};
 ghost use Rattle.bits.specs.Bits.{field, store};
 ghost use Rattle.fields.specs.Lists.{listOf, endOf, nth};
 ghost use Rattle.rules.specs.Claim.{holds};
@@ -222,6 +222,17 @@ pub fn first_above(most: &[u64], values: &[u64]) -> usize
         i += 1;
     }
     0
+}
+
+// Zero in every byte.
+pub fn clear(s: &mut [u8])
+    ensures { λ _. ⌜ now (s .exit) ≡ replicate (length (now (s .entry))) 0 ⌝ }
+{
+    let mut i: usize = 0;
+    while i < s.len() {
+        s[i] = 0;
+        i += 1;
+    }
 }
 
 // Whether every value is at most the largest of its field.

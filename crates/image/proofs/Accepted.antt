@@ -4,20 +4,20 @@ use mathlib.Core.Path.{_≡_, refl, sym, subst, _∙_}
 use mathlib.Core.List.{List}
 use Prim.Native.Nat.{ℕ, zero, suc}
 use native.Mathlib.Omega.{arith}
-use Rattle.image.specs.Bounds.{Bounds, bounds}
+use Rattle.image.specs.Bounds.{Bounds}
 use Rattle.image.specs.Obeys.{Obeys}
 use Rattle.image.specs.Rules.{Verdict, verdict}
-use Rattle.image.specs.Shape.{shapeOf, Shaped, shaped}
+use Rattle.image.specs.Shape.{shapeOf, Shaped}
 use Rattle.image.specs.Answer.{answer, checkOf}
 use Rattle.image.specs.declared.Shape.{Shape}
 use Rattle.image.specs.declared.Checked.{Checked}
 use Rattle.image.specs.declared.Checked.the-variants.{Accepted, Refused}
+use Rattle.image.proofs.Exact as exact
 use Rattle.image.proofs.Exact.{accepts}
+use Rattle.image.proofs.Shapes.{shaped}
 
 pub obeys-bounds : (c : List ℕ) → Obeys c → Bounds c
-obeys-bounds c o =
-    bounds c (o .head, (o .length-stated, (o .version-one, (o .copy-in-force, (o .shell-there, tt)))))
-    (o .full-shell, (o .dataset-least, (o .sectors-least, (o .size-least, (o .entries, (o .table-bytes, (o .directory-fits, (o .dataset-fits, (o .whole, tt)))))))))
+obeys-bounds = exact.obeys-bounds
 
 -- what is known where a check has accepted with the shape g
 pub record Open (c : List ℕ) (g : Shape) : Type 0 where

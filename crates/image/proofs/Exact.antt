@@ -1,81 +1,31 @@
 -- The verdict is exact: it gives number n with entry e if and only if document 01 says so, and it accepts if and only if the image obeys.
 -- Assumes nothing.
-use mathlib.Core.Path.{_≡_, refl, sym, ap, subst, _∙_}
-use mathlib.Core.Logic.{_≢_, _↔_, _⊎_, inl, inr, ⊎-elim}
-use mathlib.Core.Bool.{Bool, true, false, _&&_, _||_, not, true≢false, false≢true}
+use mathlib.Core.Path.{_≡_, refl, sym, subst, _∙_}
+use mathlib.Core.Logic.{_↔_, _⊎_, inl, inr}
+use mathlib.Core.Bool.{Bool, true, false, _&&_, not}
 use mathlib.Core.List.{List, [], _∷_, _++_}
 use Prim.Native.Nat.{ℕ, zero, suc, _+_, _-_, _*_, _≤_, _<_}
 use native.Mathlib.Omega.{arith}
-use native.Mathlib.Decide.{decLt, ℕ-discrete}
 use lib.Dec.{eqb, leb}
-use borrow.Author.Tests.{eqb-true, eq-eqb, eqb-false, ne-eqb, leb-true, le-leb, not-true}
+use lib.ListN.{drop}
+use borrow.Author.Tests.{eqb-false, ne-eqb, leb-true, le-leb, not-true}
 use Rattle.bits.specs.Bits.{field}
-use Rattle.chains.specs.Chain.{Sector, In, Common, Chain, NoChain, Walk, found, broken, walk}
-use Rattle.chains.proofs.Laws.{found-chain, broken-none}
+use Rattle.chains.specs.Chain.{Sector, Chain}
+use Rattle.chains.specs.Psi.{Ψ}
+use Rattle.chains.proofs.ProductLaws as products
+use Rattle.chains.proofs.ProductLaws.{Tested}
 use Rattle.rules.specs.Claim.{Kept, Fails, here, later, Rule, first, KeptBelow, Unkept}
 use Rattle.rules.proofs.ClaimLaws as CL
 use Rattle.rules.proofs.ClaimLaws.{and-true, Found, none, one, kept-fails, fails-one, Numbered, Rising, fails-row}
-use Rattle.image.specs.Image.{S, e#, entryAt, isProduct, element, chain, sectorsOf, sectors}
-use Rattle.image.specs.Rules as R
-use Rattle.image.specs.Rules.{rules, isBroken, brokenAt, member, meet, some, sharesAt, Verdict, judged, verdict}
+use Rattle.rules.specs.Lowest.{lowest}
 use Rattle.rules.proofs.LowestLaws.{Found-lowest, nowhere, somewhere, lowest-is}
+use Rattle.image.specs.Image.{shellPad, tablePad, dataset, S, e#, SCTL, entryAt, tableAt, isProduct, element, chain, sectors}
+use Rattle.image.specs.Rules.{headRules, sizeRules, rules, brokenAt, sharesAt, Verdict, judged, verdict}
+use Rattle.image.specs.Bounds.{Bounds}
 use Rattle.image.specs.Obeys as O
-use Rattle.image.specs.Obeys.{IsProduct, Broken, Shares, Obeys, Lowest, Says, accepted, refused, shared}
-use Rattle.rules.specs.Lowest.{orHere, lowest}
-
--- ---- tests
-
-or-true : (a b : Bool) → (a || b) ≡ true → (a ≡ true) ⊎ (b ≡ true)
-or-true true b e = inl e
-or-true false b e = inr e
-
-true-or : (a : Bool) → (a || true) ≡ true
-true-or true = refl
-true-or false = refl
-
-some-true : (n : ℕ) (t : ℕ → Bool) → some n t ≡ true → (i : ℕ) × (i < n) × (t i ≡ true)
-unfolding some
-some-true zero t e = absurd (false≢true e)
-some-true (suc n) t e = go (or-true (some n t) (t n) e) (some-true n t)
-  where
-    go : (some n t ≡ true) ⊎ (t n ≡ true) → (some n t ≡ true → (i : ℕ) × (i < n) × (t i ≡ true)) → (i : ℕ) × (i < suc n) × (t i ≡ true)
-    go (inl a) ih = let r = ih a in (r .0, omega (arith, r .1), r .2)
-    go (inr a) ih = (n, omega arith, a)
-
-true-some : (n : ℕ) (t : ℕ → Bool) (i : ℕ) → i < n → t i ≡ true → some n t ≡ true
-unfolding some
-true-some zero t i h e = absurd (omega arith)
-true-some (suc n) t i h e = go (decLt i n) (true-some n t i)
-  where
-    go : Dec (i < n) → (i < n → t i ≡ true → some n t ≡ true) → (some n t || t n) ≡ true
-    go (yes l) ih = rw (ih l e)
-    go (no l) ih = let q : i ≡ n = omega arith in rw (← q, e, true-or)
-
-member-in : (x : ℕ) (ys : List ℕ) → member x ys ≡ true → In x ys
-unfolding member
-member-in x [] e = absurd (false≢true e)
-member-in x (y ∷ ys) e = ⊎-elim (λ a. inl (eqb-true x y a)) (λ a. inr (member-in x ys a)) (or-true (eqb x y) (member x ys) e)
-
-in-member : (x : ℕ) (ys : List ℕ) → In x ys → member x ys ≡ true
-unfolding member
-in-member x [] h = absurd h
-in-member x (y ∷ ys) (inl e) = rw (eq-eqb x y e)
-in-member x (y ∷ ys) (inr h) = rw (in-member x ys h, true-or)
-
-meet-common : (xs ys : List ℕ) → meet xs ys ≡ true → Common xs ys
-unfolding meet
-meet-common [] ys e = absurd (false≢true e)
-meet-common (x ∷ xs) ys e =
-    ⊎-elim (λ a. (x, inl refl, member-in x ys a)) (λ a. let r = meet-common xs ys a in (r .0, inr (r .1), r .2)) (or-true (member x ys) (meet xs ys) e)
-
-common-meet : (xs ys : List ℕ) → Common xs ys → meet xs ys ≡ true
-unfolding meet
-common-meet [] ys h = absurd (h .1)
-common-meet (x ∷ xs) ys h = go (h .1) (common-meet xs ys)
-  where
-    go : (h .0 ≡ x) ⊎ In (h .0) xs → (Common xs ys → meet xs ys ≡ true) → (member x ys || meet xs ys) ≡ true
-    go (inl e) ih = rw (in-member x ys (rw e at (h .2)))
-    go (inr i) ih = rw (ih (h .0, i, h .2), true-or)
+use Rattle.image.specs.Obeys.{IsProduct, Broken, Shares, Zeros, Obeys, Lowest, Says, accepted, refused, shared}
+use Rattle.image.proofs.Bounded.{bounds}
+use Rattle.image.proofs.Padding.{zeros-field}
 
 -- the lowest that passes a test for P
 lowest-so : (P : ℕ → Type 0) (n : ℕ) (t : ℕ → Bool) → ((k : ℕ) → P k → (1 ≤ k) × (k ≤ n) × (t k ≡ true)) → ((k : ℕ) → t k ≡ true → P k)
@@ -101,65 +51,29 @@ module _ (c : List ℕ) (fits : e# c ≤ S c - 3) where
   pub product-sector : {j : ℕ} → IsProduct c j → Sector (S c) j
   product-sector v = record { low = v .low; high = omega arith }
 
+  -- the test of being a product is right
+  pub tested : Tested (IsProduct c) (isProduct c) (S c)
+  tested = record { so = test-product c; test = product-test c; sector = λ j v. product-sector v }
+
   pub broken-so : (j : ℕ) → brokenAt c j ≡ true → Broken c j
-  unfolding brokenAt chain
-  broken-so j e =
-      let x = and-true (isProduct c j) (isBroken (walk (element c) (S c) j (S c - 3))) e in
-      let v = test-product c j (x .0) in
-      go v (walk (element c) (S c) j (S c - 3)) refl (x .1)
-    where
-      go : IsProduct c j → (w : Walk) → walk (element c) (S c) j (S c - 3) ≡ w → isBroken w ≡ true → Broken c j
-      go v (found ss m) q b = absurd (false≢true b)
-      go v broken q b = record { is-product = v; none = broken-none (element c) (S c) (product-sector v) .0 q }
+  unfolding brokenAt
+  broken-so = products.broken-so tested (element c)
 
   pub so-broken : (j : ℕ) → Broken c j → brokenAt c j ≡ true
-  unfolding brokenAt chain
-  so-broken j b = rw (product-test c j (b .is-product), broken-none (element c) (S c) (product-sector (b .is-product)) .1 (b .none))
-
-  -- the sectors of a isProduct entry's chain, where there are any
-  sectors-so : (j x : ℕ) → IsProduct c j → In x (sectors c j) → (m : ℕ) × Chain (element c) (S c) j (sectors c j) m
-  unfolding sectors chain
-  sectors-so j x v h = go (walk (element c) (S c) j (S c - 3)) refl h
-    where
-      go : (w : Walk) → walk (element c) (S c) j (S c - 3) ≡ w → In x (sectorsOf w) → (m : ℕ) × Chain (element c) (S c) j (sectorsOf w) m
-      go (found ss m) q i = (m, found-chain (element c) (S c) (product-sector v) .0 q)
-      go broken q i = absurd i
+  unfolding brokenAt
+  so-broken = products.so-broken tested (element c)
 
   pub so-sectors : {j m : ℕ} {ss : List ℕ} → IsProduct c j → Chain (element c) (S c) j ss m → sectors c j ≡ ss
   unfolding sectors chain
-  so-sectors v d = rw (found-chain (element c) (S c) (product-sector v) .1 d)
+  so-sectors v d = products.so-sectors tested (element c) v d
 
   pub shares-so : (k : ℕ) → sharesAt c k ≡ true → Shares c k
   unfolding sharesAt
-  shares-so k e =
-      let x = and-true (isProduct c k) (some k (λ j. isProduct c j && meet (sectors c j) (sectors c k))) e in
-      let y = some-true k (λ j. isProduct c j && meet (sectors c j) (sectors c k)) (x .1) in
-      let z = and-true (isProduct c (y .0)) (meet (sectors c (y .0)) (sectors c k)) (y .2) in
-      let v = test-product c (y .0) (z .0) in
-      let w = test-product c k (x .0) in
-      let h = meet-common (sectors c (y .0)) (sectors c k) (z .1) in
-      let d = sectors-so (y .0) (h .0) v (h .1) in
-      let f = sectors-so k (h .0) w (h .2) in
-      record {
-        lower = y .0;
-        below = y .1;
-        product-lower = v;
-        product-k = w;
-        sectors = sectors c (y .0);
-        mark = d .0;
-        sectors-k = sectors c k;
-        mark-k = f .0;
-        chain = d .1;
-        chain-k = f .1;
-        common = h;
-      }
+  shares-so = products.shares-so tested (element c)
 
   pub so-shares : (k : ℕ) → Shares c k → sharesAt c k ≡ true
   unfolding sharesAt
-  so-shares k s =
-      let p : meet (sectors c (s .lower)) (sectors c k) ≡ true =
-      rw (so-sectors (s .product-lower) (s .chain), so-sectors (s .product-k) (s .chain-k)) (common-meet (s .sectors) (s .sectors-k) (s .common)) in
-      rw (product-test c k (s .product-k), true-some k (λ j. isProduct c j && meet (sectors c j) (sectors c k)) (s .lower) (s .below) (rw (product-test c (s .lower) (s .product-lower), p)))
+  so-shares = products.so-shares tested (element c)
 
 -- ---- the rules 1 to 9
 
@@ -171,12 +85,41 @@ rising : (c : List ℕ) → Rising 0 (rules c)
 unfolding rules
 rising c = omega arith
 
-kept-obeys : (c : List ℕ) → Kept (rules c) → ((j : ℕ) → Broken c j → ⊥) → ((k : ℕ) → Shares c k → ⊥) → Obeys c
+kept-bounds : (c : List ℕ) → Kept (rules c) → Bounds c
 unfolding rules
+kept-bounds c k =
+    let k5 = k .1 .1 .1 .1 .1 in
+    bounds c (k .0, (k .1 .0, (k .1 .1 .0, (k .1 .1 .1 .0, (k .1 .1 .1 .1 .0, tt)))))
+    (k5 .0, (k5 .1 .0, (k5 .1 .1 .0, (k5 .1 .1 .1 .0, (k5 .1 .1 .1 .1 .0, (k5 .1 .1 .1 .1 .1 .0, (k5 .1 .1 .1 .1 .1 .1 .0, (k5 .1 .1 .1 .1 .1 .1 .1 .0, (k5 .1 .1 .1 .1 .1 .1 .1 .1 .0, tt)))))))))
+
+pub obeys-bounds : (c : List ℕ) → Obeys c → Bounds c
+unfolding dataset
+obeys-bounds c o =
+    bounds c (o .head, (o .length-stated, (o .version-one, (o .copy-in-force, (o .shell-there, tt)))))
+    (o .full-shell, (o .dataset-least, (o .sectors-least, (o .size-least, (o .entries, (o .table-bytes, (o .directory-fits, (o .dataset-fits, (o .whole, tt)))))))))
+
+-- the paddings are zero exactly where each of their bits is
+module _ (c : List ℕ) (b : Bounds c) where
+  shell-zeros : (shellPad c ≡ 0) ↔ Zeros (drop 4 c) 160 (8 * (dataset c - 2))
+  unfolding shellPad
+  shell-zeros =
+      let e : 160 + 8 * (dataset c - 22) ≡ 8 * (dataset c - 2) = omega arith in
+      rw e at (zeros-field (drop 4 c) 160 (8 * (dataset c - 22)))
+
+  table-zeros : (tablePad c ≡ 0) ↔ Zeros c (8 * tableAt c + Ψ (S c) * (S c - 3)) (8 * (tableAt c + SCTL c))
+  unfolding tablePad
+  table-zeros =
+      let e : 8 * tableAt c + Ψ (S c) * (S c - 3) + (8 * SCTL c - Ψ (S c) * (S c - 3)) ≡ 8 * (tableAt c + SCTL c) = omega arith in
+      rw e at (zeros-field c (8 * tableAt c + Ψ (S c) * (S c - 3)) (8 * SCTL c - Ψ (S c) * (S c - 3)))
+
+pub kept-obeys : (c : List ℕ) → Kept (rules c) → ((j : ℕ) → Broken c j → ⊥) → ((k : ℕ) → Shares c k → ⊥) → Obeys c
+unfolding rules dataset
 kept-obeys c k b s =
     let k5 = k .1 .1 .1 .1 .1 in
     let k10 = k5 .1 .1 .1 .1 .1 in
     let k15 = k10 .1 .1 .1 .1 .1 in
+    let g = kept-bounds c k in
+    let t = tested c (k5 .1 .1 .1 .1 .0 .1) in
     record {
       head = k .0;
       length-stated = k .1 .0;
@@ -196,16 +139,25 @@ kept-obeys c k b s =
       iin = k15 .0;
       issn = k15 .1 .0;
       chd = k15 .1 .1 .0;
-      shell-padding = k15 .1 .1 .1 .0;
-      table-padding = k15 .1 .1 .1 .1 .0;
-      none-broken = b;
-      none-shares = s;
+      shell-padding = shell-zeros c g .0 (k15 .1 .1 .1 .0);
+      table-padding = table-zeros c g .0 (k15 .1 .1 .1 .1 .0);
+      chained = products.chained-none t (element c) .1 b;
+      disjoint = products.disjoint-none t (element c) .1 s;
     }
 
-obeys-kept : (c : List ℕ) → Obeys c → Kept (rules c)
-unfolding rules
+pub obeys-kept : (c : List ℕ) → Obeys c → Kept (rules c)
+unfolding rules dataset
 obeys-kept c o =
-    (o .head, (o .length-stated, (o .version-one, (o .copy-in-force, (o .shell-there, (o .full-shell, (o .dataset-least, (o .sectors-least, (o .size-least, (o .entries, (o .table-bytes, (o .directory-fits, (o .dataset-fits, (o .whole, (o .checksum, (o .iin, (o .issn, (o .chd, (o .shell-padding, (o .table-padding, tt))))))))))))))))))))
+    let g = obeys-bounds c o in
+    (o .head, (o .length-stated, (o .version-one, (o .copy-in-force, (o .shell-there, (o .full-shell, (o .dataset-least, (o .sectors-least, (o .size-least, (o .entries, (o .table-bytes, (o .directory-fits, (o .dataset-fits, (o .whole, (o .checksum, (o .iin, (o .issn, (o .chd, (shell-zeros c g .1 (o .shell-padding), (table-zeros c g .1 (o .table-padding), tt))))))))))))))))))))
+
+-- no product of an acceptable image is broken, and none shares with a lower one
+module _ (c : List ℕ) (o : Obeys c) where
+  pub none-broken : (j : ℕ) → Broken c j → ⊥
+  none-broken = products.chained-none (tested c (o .entries .1)) (element c) .0 (o .chained)
+
+  pub none-shares : (k : ℕ) → Shares c k → ⊥
+  none-shares = products.disjoint-none (tested c (o .entries .1)) (element c) .0 (o .disjoint)
 
 -- e# is at most S - 3 where the rules are kept
 fits-kept : (c : List ℕ) → Kept (rules c) → e# c ≤ S c - 3
@@ -254,17 +206,17 @@ module _ (c : List ℕ) where
   pub says-one : {n e m f : ℕ} → Says c n e → Says c m f → (n ≡ m) × (e ≡ f)
   says-one (accepted o) (accepted p) = (refl, refl)
   says-one (accepted o) (refused f) = absurd (kept-fails f (obeys-kept c o))
-  says-one (accepted o) (O.broken {j = j} r l) = absurd (o .none-broken j (l .holds))
-  says-one (accepted o) (shared {k = k} r b l) = absurd (o .none-shares k (l .holds))
+  says-one (accepted o) (O.broken {j = j} r l) = absurd (none-broken c o j (l .holds))
+  says-one (accepted o) (shared {k = k} r b l) = absurd (none-shares c o k (l .holds))
   says-one (refused f) (accepted o) = absurd (kept-fails f (obeys-kept c o))
   says-one (refused f) (refused g) = (fails-one f g, refl)
   says-one (refused f) (O.broken r l) = absurd (kept-fails f r)
   says-one (refused f) (shared r b l) = absurd (kept-fails f r)
-  says-one (O.broken {j = j} r l) (accepted o) = absurd (o .none-broken j (l .holds))
+  says-one (O.broken {j = j} r l) (accepted o) = absurd (none-broken c o j (l .holds))
   says-one (O.broken r l) (refused f) = absurd (kept-fails f r)
   says-one (O.broken {j = j} r l) (O.broken {j = k} q m) = (refl, lowest-one (Broken c) j k l m)
   says-one (O.broken {j = j} r l) (shared q b m) = absurd (b j (l .holds))
-  says-one (shared {k = k} r b l) (accepted o) = absurd (o .none-shares k (l .holds))
+  says-one (shared {k = k} r b l) (accepted o) = absurd (none-shares c o k (l .holds))
   says-one (shared r b l) (refused f) = absurd (kept-fails f r)
   says-one (shared r b l) (O.broken {j = j} q m) = absurd (b j (m .holds))
   says-one (shared {k = j} r b l) (shared {k = k} q d m) = (refl, lowest-one (Shares c) j k l m)

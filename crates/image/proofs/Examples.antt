@@ -6,10 +6,13 @@ use lib.ListN.{replicate, length}
 use lib.Count.{leadingZeros}
 use Rattle.bits.specs.Bits.{digit, bit, number, field}
 use Rattle.chains.specs.Chain.{link, walk}
+use Rattle.chains.specs.Products as products
+use Rattle.chains.specs.Products.{member, meet, some}
+use Rattle.fields.specs.Fields.{fields}
 use Rattle.crc.specs.Crc.{clock, clocks, register, crc}
 use Rattle.rules.specs.Claim.{all, first}
-use Rattle.image.specs.Image.{stated, version, copy, dataset, shellMap, B, S, e#, SCTL, shellPad, SECR, sealed, sectorAt, directoryAt, entryAt, tableAt, isProduct, element, tablePad, chain, sectors, mark, sector, joined, product}
-use Rattle.image.specs.Rules.{rules, brokenAt, member, meet, some, sharesAt, Verdict, verdict}
+use Rattle.image.specs.Image.{stated, version, copy, shellValues, dataset, B, S, e#, SCTL, shellPad, SECR, sealed, sectorAt, directoryAt, entryAt, tableAt, isProduct, element, tablePad, chain, sectors, mark, sector, joined, product}
+use Rattle.image.specs.Rules.{rules, brokenAt, sharesAt, Verdict, verdict}
 use Rattle.rules.specs.Lowest.{lowest}
 use Rattle.chains.specs.Psi.{Ψ, tableBytes}
 
@@ -33,7 +36,7 @@ card : ℕ → ℕ → List ℕ
 card a b = 0x04 ∷ 0x04 ∷ 1 ∷ 0 ∷ shellSector ++ (replicate 832 0 ++ (directory a b ++ replicate 64 0))
 
 judge : List ℕ → Verdict
-unfolding verdict rules first all stated version copy dataset shellMap B S e# SCTL shellPad SECR sealed sectorAt directoryAt entryAt tableAt isProduct Ψ tableBytes element tablePad chain sectors brokenAt member meet some sharesAt lowest field number bit digit leadingZeros walk link crc register clocks clock
+unfolding verdict rules first all stated version copy shellValues fields dataset B S e# SCTL shellPad SECR sealed sectorAt directoryAt entryAt tableAt isProduct Ψ tableBytes element tablePad chain sectors brokenAt products.brokenAt member meet some sharesAt products.sharesAt lowest field number bit digit leadingZeros walk link crc register clocks clock
 judge c = verdict c
 
 size : length (card 0x32 0xF0) ≡ 1028

@@ -1,9 +1,14 @@
+pub mod Padding
+pub mod Bounded
+pub mod Shapes
+pub mod Answers
 pub mod Exact
 pub mod Examples
 pub mod Limits
 pub mod Entries
-pub mod Meets
-pub mod Seen
 pub mod Stops
 pub mod Verdict
 pub mod Accepted
+pub mod First
+pub mod Same
+pub mod Stays

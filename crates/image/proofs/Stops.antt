@@ -7,7 +7,8 @@ use native.Mathlib.Omega.{arith}
 use Rattle.rules.specs.Claim.{Rule, Kept, first}
 use Rattle.rules.proofs.ClaimLaws.{Numbered, Found, none, one, found, orElse, first-append}
 use Rattle.image.specs.Rules.{headRules, sizeRules, contentRules, rules}
-use Rattle.image.specs.Bounds.{Bounds, bounds}
+use Rattle.image.specs.Bounds.{Bounds}
+use Rattle.image.proofs.Bounded.{bounds}
 use Rattle.image.specs.Shape.{shapeOf}
 use Rattle.image.specs.Answer.{answer, ruledOf}
 use Rattle.image.specs.declared.Shape.{Shape}

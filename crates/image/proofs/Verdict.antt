@@ -7,8 +7,9 @@ use native.Mathlib.Omega.{arith}
 use Rattle.rules.specs.Claim.{Rule, Kept, first}
 use Rattle.image.specs.Image.{e#}
 use Rattle.image.specs.Rules.{headRules, sizeRules, contentRules, rules, brokenAt, sharesAt, judged, verdict}
-use Rattle.image.specs.Bounds.{bounds}
-use Rattle.image.specs.Shape.{shapeOf, Shaped, shaped}
+use Rattle.image.proofs.Bounded.{bounds}
+use Rattle.image.specs.Shape.{shapeOf, Shaped}
+use Rattle.image.proofs.Shapes.{shaped}
 use Rattle.image.specs.Answer.{answer, ruledOf, checkOf, chainsOf}
 use Rattle.image.specs.declared.Shape.{Shape}
 use Rattle.image.specs.declared.Checked.{Checked}

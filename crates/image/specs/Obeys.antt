@@ -1,16 +1,18 @@
--- What an acceptable image is, said plainly, and when each number is given. Numbers and words are document 01's. Assumes nothing.
+-- What an acceptable image is, said plainly, and when each number is given. Numbers and words are those of document 01, "Numbers given back".
+-- Assumes nothing.
 use mathlib.Core.Path.{_≡_}
 use mathlib.Core.Logic.{_≢_}
 use mathlib.Core.List.{List}
-use Prim.Native.Nat.{ℕ, _+_, _-_, _*_, _≤_, _<_}
-use lib.ListN.{length}
-use Rattle.bits.specs.Bits.{field}
-use Rattle.chains.specs.Chain.{Chain, NoChain, Common}
+use Prim.Native.Nat.{ℕ, _+_, _-_, _*_, _/_, _%_, _^_, _≤_, _<_}
+use lib.ListN.{length, drop}
+use Rattle.bits.specs.Bits.{bit, field}
+use Rattle.chains.specs.Products as products
+use Rattle.chains.specs.Psi.{Ψ, tableBytes}
 use Rattle.crc.specs.Crc.{crc}
 use Rattle.rules.specs.Claim.{Kept, Fails}
-use Rattle.image.specs.Image.{stated, version, copy, shell, dataset, shellMap, B, S, e#, SCTL, shellPad, SECR, sealed, entryAt, element, tablePad}
+use Rattle.shell.specs.Shell.{ShellBitMap, IIN, ISSN, CHD}
+use Rattle.image.specs.Image.{stated, version, copy, shellValues, dataset, B, S, e#, SCTL, SECR, sealed, entryAt, tableAt, element}
 use Rattle.image.specs.Rules.{rules}
-use Rattle.chains.specs.Psi.{tableBytes}
 
 -- entry j is there and not empty
 pub record IsProduct (c : List ℕ) (j : ℕ) : Type 0 where
@@ -18,24 +20,21 @@ pub record IsProduct (c : List ℕ) (j : ℕ) : Type 0 where
   pub high : j ≤ e# c
   pub full : field c (8 * entryAt c j) 40 ≢ 0
 
--- entry j is there, and no chain starts at sector j
-pub record Broken (c : List ℕ) (j : ℕ) : Type 0 where
-  pub is-product : IsProduct c j
-  pub none : NoChain (element c) (S c) j
+-- 10: entry j is a product, and no chain starts at sector j
+abbrev pub Broken : List ℕ → ℕ → Type 0
+Broken c j = products.Broken (IsProduct c) (element c) (S c) j
 
--- the chain of entry k has a sector in common with that of a lower entry
-pub record Shares (c : List ℕ) (k : ℕ) : Type 0 where
-  pub lower : ℕ
-  pub below : lower < k
-  pub product-lower : IsProduct c lower
-  pub product-k : IsProduct c k
-  pub sectors : List ℕ
-  pub mark : ℕ
-  pub sectors-k : List ℕ
-  pub mark-k : ℕ
-  pub chain : Chain (element c) (S c) lower sectors mark
-  pub chain-k : Chain (element c) (S c) k sectors-k mark-k
-  pub common : Common sectors sectors-k
+-- 11: the chain of product k has a sector in common with that of a lower one
+abbrev pub Shares : List ℕ → ℕ → Type 0
+Shares c k = products.Shares (IsProduct c) (element c) (S c) k
+
+-- each of the n digits of four bits of which v is made is at most 9
+abbrev pub Digits : ℕ → ℕ → Type 0
+Digits n v = (i : ℕ) → i < n → v / 2 ^ (4 * i) % 16 ≤ 9
+
+-- every bit of l from bit a up to bit z is 0
+abbrev pub Zeros : List ℕ → ℕ → ℕ → Type 0
+Zeros l a z = (i : ℕ) → a ≤ i → i < z → bit l i ≡ 0
 
 pub record Obeys (c : List ℕ) : Type 0 where
   -- 1
@@ -46,7 +45,7 @@ pub record Obeys (c : List ℕ) : Type 0 where
   pub copy-in-force : copy c ≤ 1
   pub shell-there : 36 ≤ length c
   -- 5
-  pub full-shell : shellMap c ≡ 0
+  pub full-shell : ShellBitMap (shellValues c) ≡ 0
   pub dataset-least : 22 ≤ dataset c
   -- 6
   pub sectors-least : 4 ≤ S c
@@ -58,16 +57,17 @@ pub record Obeys (c : List ℕ) : Type 0 where
   pub whole : length c ≡ 4 + S c * B c
   -- 7
   pub checksum : SECR c ≡ crc (sealed c)
-  -- 8: IIN, ISSN, CHD, the padding
-  pub iin : (i : ℕ) → i < 6 → shell c (16 + 4 * i) 4 ≤ 9
-  pub issn : (i : ℕ) → i < 7 → shell c (56 + 4 * i) 4 ≤ 9
-  pub chd : shell c 84 4 ≤ 9
-  pub shell-padding : shellPad c ≡ 0
-  -- 9
-  pub table-padding : tablePad c ≡ 0
-  -- 10, 11
-  pub none-broken : (j : ℕ) → Broken c j → ⊥
-  pub none-shares : (k : ℕ) → Shares c k → ⊥
+  -- 8: the digits, and the shell's padding from byte 20 up to the checksum
+  pub iin : Digits 6 (IIN (shellValues c))
+  pub issn : Digits 7 (ISSN (shellValues c))
+  pub chd : Digits 1 (CHD (shellValues c))
+  pub shell-padding : Zeros (drop 4 c) 160 (8 * (dataset c - 2))
+  -- 9: the bits after the last element, to the end of the table
+  pub table-padding : Zeros c (8 * tableAt c + Ψ (S c) * (S c - 3)) (8 * (tableAt c + SCTL c))
+  -- 10: every product has a chain
+  pub chained : products.Chained (IsProduct c) (element c) (S c)
+  -- 11: no two products have a sector in common
+  pub disjoint : products.Disjoint (IsProduct c) (element c) (S c)
 
 -- r is the lowest number of which P holds
 pub record Lowest (P : ℕ → Type 0) (r : ℕ) : Type 0 where

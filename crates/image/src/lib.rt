@@ -1,20 +1,35 @@
 // The image: the rules of document 01 in their order.
 use chains::Table;
 use chains::Walked;
+use fields::Layout;
+use rules::BROKEN_CHAIN;
+use rules::NO_SHELL;
+use rules::SHARED_SECTOR;
+use rules::WRONG_COPY;
+use rules::WRONG_DIGIT;
+use rules::WRONG_LENGTH;
+use rules::WRONG_SECR;
+use rules::WRONG_SHELL;
+use rules::WRONG_SIZE;
+use rules::WRONG_TABLE;
+use rules::WRONG_VERSION;
 ghost use mathlib.Core.Path.{_≡_};
 ghost use Prim.Native.Nat.{_+_, _-_, _*_, _^_, _≤_, _<_};
-ghost use lib.ListN.{length};
+ghost use lib.ListN.{length, getD};
 ghost use lib.Dec.{eqb};
 ghost use Rattle.crc.specs.Crc as sum;
 ghost use Rattle.bits.specs.Bits.{field};
+ghost use Rattle.fields.specs.Fields.{valueAt};
+ghost use Rattle.fields.specs.Lists as lists;
+ghost use Rattle.shell.specs.Shell.{decimal};
+ghost use Rattle.chains.specs.Packed.{told, lastLeft};
 ghost use Rattle.rules.specs.Claim.{unless, first, holds};
-ghost use Rattle.image.specs.Image.{SECR, sealed, tablePad, e#, isProduct, chain};
-ghost use Rattle.image.specs.Bounds.{Bounds};
-ghost use Rattle.image.specs.Shape.{shapeOf, Shaped, tellAt, tableOf};
-ghost use Rattle.chains.specs.Packed.{told};
-ghost use Rattle.image.specs.Answer.{ruledOf, checkOf, chainsOf};
-ghost use Rattle.image.specs.Rules.{headRules, sizeRules, contentRules, decimal, brokenAt, sharesAt};
 ghost use Rattle.rules.specs.Lowest.{lowest};
+ghost use Rattle.image.specs.Image.{shellValues, SECR, sealed, tablePad, S, e#, isProduct, chain};
+ghost use Rattle.image.specs.Bounds.{Bounds};
+ghost use Rattle.image.specs.Shape.{shapeOf, Shaped, tableOf};
+ghost use Rattle.image.specs.Answer.{ruledOf, checkOf, chainsOf};
+ghost use Rattle.image.specs.Rules.{headRules, sizeRules, contentRules, brokenAt, sharesAt};
 
 // The field of `width` bits at bit `first`, as a size.
 fn at(image: &[u8], first: usize, width: usize) -> usize
@@ -22,6 +37,22 @@ fn at(image: &[u8], first: usize, width: usize) -> usize
     ensures { λ r. ⌜ (r ≡ field (now (image .entry)) first width) × (r < 2 ^ width) ⌝ }
 {
     bits::get(image, first, width) as usize
+}
+
+// The value i, from 0, of the image's first four bytes.
+fn of_head(image: &[u8], i: usize) -> usize
+    requires { ⌜ (i < 3) × (4 ≤ length (now image)) ⌝ }
+    ensures { λ r. ⌜ (r ≡ valueAt Layout.Image i (now (image .entry))) × (r < 2 ^ lists.nth lists.image i .1) ⌝ }
+{
+    fields::value(image, Layout::Image, i) as usize
+}
+
+// The value i, from 0, of the shell record.
+fn of_shell(image: &[u8], i: usize) -> usize
+    requires { ⌜ (i < 16) × (36 ≤ length (now image)) ⌝ }
+    ensures { λ r. ⌜ (r ≡ getD (shellValues (now (image .entry))) i 0) × (r < 2 ^ lists.nth lists.shell i .1) ⌝ }
+{
+    fields::value(&image[4..], Layout::Shell, i) as usize
 }
 
 // The number of a rule that is not kept, or that of the rules after it.
@@ -37,15 +68,19 @@ fn head(image: &[u8]) -> usize
 {
     let n = image.len();
     if n < 4 {
-        return 1;
+        return WRONG_LENGTH;
     }
-    let stated = at(image, 0, 16);
-    let version = at(image, 16, 8);
-    let copy = at(image, 24, 8);
+    let stated = of_head(image, 0);
+    let version = of_head(image, 1);
+    let copy = of_head(image, 2);
     need(
-        1,
+        WRONG_LENGTH,
         stated == n,
-        need(2, version == 1, need(3, copy <= 1, need(4, 36 <= n, 0))),
+        need(
+            WRONG_VERSION,
+            version == 1,
+            need(WRONG_COPY, copy <= 1, need(NO_SHELL, 36 <= n, 0)),
+        ),
     )
 }
 
@@ -70,20 +105,24 @@ fn sizes(image: &[u8]) -> usize
     ensures { λ r. ⌜ r ≡ first (sizeRules (now (image .entry))) ⌝ }
 {
     let n = image.len();
-    let dataset = 4 * at(image, 32, 6);
-    let map = at(image, 38, 6);
-    let b = at(image, 160, 8);
-    let s = at(image, 168, 8);
-    let e = at(image, 176, 8);
-    let t = at(image, 184, 8);
-    let length = need(6, n == whole(s, b), 0);
-    let shell = need(6, dataset <= b, length);
-    let directory = need(6, 16 + 5 * e + t <= b, shell);
-    let table = need(6, t == chains::table_bytes(s), directory);
-    let entries = need(6, (1 <= e) & (e <= minus(s, 3)), table);
-    let size = need(6, 32 <= b, entries);
-    let sectors = need(6, 4 <= s, size);
-    need(5, map == 0, need(5, 22 <= dataset, sectors))
+    let dataset = 4 * of_shell(image, 0);
+    let map = of_shell(image, 1);
+    let b = of_shell(image, 12);
+    let s = of_shell(image, 13);
+    let e = of_shell(image, 14);
+    let t = of_shell(image, 15);
+    let length = need(WRONG_SIZE, n == whole(s, b), 0);
+    let shell = need(WRONG_SIZE, dataset <= b, length);
+    let directory = need(WRONG_SIZE, 16 + 5 * e + t <= b, shell);
+    let table = need(WRONG_SIZE, t == chains::table_bytes(s), directory);
+    let entries = need(WRONG_SIZE, (1 <= e) & (e <= minus(s, 3)), table);
+    let size = need(WRONG_SIZE, 32 <= b, entries);
+    let sectors = need(WRONG_SIZE, 4 <= s, size);
+    need(
+        WRONG_SHELL,
+        map == 0,
+        need(WRONG_SHELL, 22 <= dataset, sectors),
+    )
 }
 
 // Whether the `count` bytes from byte `from` on are all zero.
@@ -100,15 +139,15 @@ fn zeros(image: &[u8], from: usize, count: usize) -> bool
     ok
 }
 
-// Whether the `count` digits from bit `first` of the shell on are decimal.
-fn digits(image: &[u8], first: usize, count: usize) -> bool
-    requires { ⌜ (first ≤ 160) × (count ≤ 8) × (32 + first + 4 * count ≤ 8 * length (now image)) ⌝ }
-    ensures { λ r. ⌜ r ≡ holds (decimal (now (image .entry)) first count) ⌝ }
+// Whether the n digits of four bits of which v is made are decimal.
+fn digits(n: usize, v: usize) -> bool
+    requires { ⌜ n ≤ 8 ⌝ }
+    ensures { λ r. ⌜ r ≡ holds (decimal n v) ⌝ }
 {
     let mut ok = true;
     let mut k: usize = 0;
-    while k < count {
-        ok = ok & (at(image, 32 + (first + 4 * k), 4) <= 9);
+    while k < n {
+        ok = ok & ((v >> (4 * k)) % 16 <= 9);
         k += 1;
     }
     ok
@@ -131,12 +170,12 @@ fn measure(image: &[u8]) -> Shape
     requires { ⌜ Bounds (now image) ⌝ }
     ensures { λ r. ⌜ r ≡ shapeOf (now (image .entry)) ⌝ }
 {
-    let copy = at(image, 24, 8);
-    let dataset = 4 * at(image, 32, 6);
-    let size = at(image, 160, 8);
-    let sectors = at(image, 168, 8);
-    let entries = at(image, 176, 8);
-    let bytes = at(image, 184, 8);
+    let copy = of_head(image, 2);
+    let dataset = 4 * of_shell(image, 0);
+    let size = of_shell(image, 12);
+    let sectors = of_shell(image, 13);
+    let entries = of_shell(image, 14);
+    let bytes = of_shell(image, 15);
     let directory = whole(sectors - 2 + copy, size);
     Shape {
         copy: copy,
@@ -175,15 +214,12 @@ fn content(image: &[u8], g: Shape) -> usize
     requires { ⌜ Shaped (now image) g ⌝ }
     ensures { λ r. ⌜ r ≡ first (contentRules (now (image .entry))) ⌝ }
 {
-    let pad = need(
-        8,
-        zeros(image, 24, g.dataset - 22),
-        need(9, table_pad(image, g) == 0, 0),
-    );
-    let chd = need(8, at(image, 116, 4) <= 9, pad);
-    let issn = need(8, digits(image, 56, 7), chd);
-    let iin = need(8, digits(image, 16, 6), issn);
-    need(7, sealed_right(image, g), iin)
+    let table = need(WRONG_TABLE, table_pad(image, g) == 0, 0);
+    let pad = need(WRONG_DIGIT, zeros(image, 24, g.dataset - 22), table);
+    let chd = need(WRONG_DIGIT, digits(1, of_shell(image, 6)), pad);
+    let issn = need(WRONG_DIGIT, digits(7, of_shell(image, 5)), chd);
+    let iin = need(WRONG_DIGIT, digits(6, of_shell(image, 3)), issn);
+    need(WRONG_SECR, sealed_right(image, g), iin)
 }
 
 // What a check answers.
@@ -221,15 +257,12 @@ pub fn present(image: &[u8], g: Shape, j: usize) -> bool
     bits::get(image, 8 * (g.directory + 2 + 5 * (j - 1)), 40) != 0
 }
 
-// The last sector of entry j's chain; 0 where the entry is empty, and 256 where its chain is broken.
-fn tell(image: &[u8], g: Shape, j: usize) -> usize
+// The last sector of the chain of entry j, and 256 for each sector then still allowed; 0 where it is broken.
+fn last_of(image: &[u8], g: Shape, j: usize) -> usize
     requires { ⌜ Shaped (now image) g ⌝ }
     requires { ⌜ (1 ≤ j) × (j ≤ g .entries) ⌝ }
-    ensures { λ r. ⌜ r ≡ tellAt (now (image .entry)) j ⌝ }
+    ensures { λ r. ⌜ r ≡ lastLeft (S (now (image .entry)) - 3) (chain (now (image .entry)) j) ⌝ }
 {
-    if !present(image, g, j) {
-        return 0;
-    }
     chains::last(&image, 8 * g.table, g.psi, g.sectors, j, g.sectors - 3)
 }
 
@@ -263,14 +296,7 @@ fn broken_at(image: &[u8], g: Shape, j: usize) -> bool
     if !present(image, g, j) {
         return false;
     }
-    match walk_of(image, g, j) {
-        Walked::End {
-            last: _,
-            count: _,
-            mark: _,
-        } => false,
-        Walked::Broken => true,
-    }
+    last_of(image, g, j) == 0
 }
 
 // 10: the lowest entry whose chain is broken; 0 where there is none.
@@ -296,19 +322,19 @@ fn chains(image: &[u8], g: Shape) -> Checked
     let mut seen = [0u8; 256];
     let mut k: usize = 1;
     while k <= g.entries {
-        let l = tell(image, g, k);
-        if l == 256 {
-            return Checked::Refused(10, k);
-        }
-        if l != 0 {
-            if seen[l] != 0 {
+        if present(image, g, k) {
+            let r = last_of(image, g, k);
+            if r == 0 {
+                return Checked::Refused(BROKEN_CHAIN, k);
+            }
+            if seen[r % 256] != 0 {
                 let j = first_broken(image, g);
                 if j != 0 {
-                    return Checked::Refused(10, j);
+                    return Checked::Refused(BROKEN_CHAIN, j);
                 }
-                return Checked::Refused(11, k);
+                return Checked::Refused(SHARED_SECTOR, k);
             }
-            seen[l] = 1;
+            seen[r % 256] = 1;
         }
         k += 1;
     }

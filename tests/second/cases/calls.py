@@ -99,25 +99,29 @@ def several_forms(dice, plan, good, j):
     return image, min(numbers), write
 
 
-def ticket_calls(script, dice, plan, good, j):
+def ticket_calls(script, dice, plan, good, j, show=False):
     """22, 23 and 24 for a read, each alone and several at once."""
     size = plan.product_length(j)
     for image, number in form_images(dice, plan, good, j):
         script.load(image)
-        read_both(script, j, size, number)
+        read_both(script, j, size, number, show and number)
     for _ in range(3):
         image, number, _ = several_forms(dice, plan, good, j)
         script.load(image)
-        read_both(script, j, size, number)
-        read_both(script, j, size - 1, 21)
+        read_both(script, j, size, number, show)
+        read_both(script, j, size - 1, 21, show)
 
 
-def read_both(script, j, lent, number):
+def read_both(script, j, lent, number, show=False):
     """Both calls of a read; the part is empty exactly when the first is refused."""
     script.number("ticket", j, lent, expect=(number, j if number else 0))
+    if show:
+        script.say("buffer", lent + 1, expect="a5" * (lent + 1) if number else None)
     part = script.say("rest", j, lent)
     if part is not None and (part == "-") != (number != 0):
         script.wrong.append(("rest %d %d" % (j, lent), part, number))
+    if show:
+        script.say("buffer", lent + 1, expect="a5" * (lent + 1) if number else None)
 
 
 def step_refused(script, dice, text, expect):

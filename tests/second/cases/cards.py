@@ -220,6 +220,18 @@ def full_plan(dice):
     return plan
 
 
+def crowded_plan(dice):
+    """The most entries a card can have, each with a product of one sector."""
+    plan = random_plan(dice, sizes=(44, 252, 41), sparse=True)
+    plan.entry = {j: random_entry(dice) for j in range(1, 42)}
+    plan.chain = {j: ([j], dice.pick([FRESH, USED, BLOCKED])) for j in range(1, 42)}
+    plan.bytes = {n: thin_sector(dice, plan.B) for n in range(1, 42)}
+    plan.ticket = {}
+    for j in range(1, 42):
+        random_ticket(dice, plan, j)
+    return plan
+
+
 def digits(dice, count):
     """A number of decimal digits, four bits each."""
     number = 0

@@ -260,6 +260,17 @@ def broken_cases(dice, plan, good):
     for n in dice.some(plan.free_sectors(), 2):
         yield element_set(plan, good, n, 0), GOOD
         yield element_set(plan, good, n, top), GOOD
+    yield from single_bits(dice, plan, good, dice.some(range(40), 3))
+
+
+def single_bits(dice, plan, good, bits):
+    """An entry with one bit is not empty, so its chain is judged."""
+    for j in [j for j in plan.empty_entries() if j in plan.free_sectors()][:1]:
+        for bit in bits:
+            image = bit_flipped(good, 8 * plan.entry_place(j) + bit)
+            yield element_set(plan, image, j, 0), (10, j)
+            yield element_set(plan, image, j, plan.S - 1), GOOD
+        yield element_set(plan, good, j, 0), GOOD
 
 
 def shared_cases(dice, plan, good):

@@ -5,7 +5,7 @@ from model.table import psi, table_length
 
 from . import calls, faults
 from .calls import BIG, words
-from .cards import full_plan, random_plan, random_record
+from .cards import crowded_plan, full_plan, random_plan, random_record
 from .values import LAYOUTS, random_shell, random_values
 
 NONSENSE = ("", " ", "?", "Check", "check 1", "check ", " check", "shell 1", "directory 0", "table 1", "entry",
@@ -15,11 +15,13 @@ NONSENSE = ("", " ", "?", "Check", "check 1", "check ", " check", "shell 1", "di
             "at 18446744073709551615 00", "at 65535 00", "keep 1", "bytes 1", "touched 1", "list 1", "unknown", "encode",
             "decode-entry 00", "encode-entry 1", "date x", "crc", "encode-table 4", "value 1", "set 1", "say_check")
 
+ON_AN_IMAGE = ("check", "list", "reads", "steps", "touched")
+
 
 def random_case(script, dice):
     """One case; gives the image it loaded, or None."""
     kind = dice.below(100)
-    if kind < 12:
+    if kind < 12 or not any(script.has(group) for group in ON_AN_IMAGE):
         for _ in range(12):
             random_value_call(script, dice)
         return None
@@ -67,12 +69,12 @@ def sizes_case(dice):
 def good_case(script, dice):
     """A good card with reads, steps and what they touched."""
     plan = random_plan(dice, small=dice.chance(40), sparse=dice.chance(20), sizes=sizes_case(dice))
-    if dice.below(100) == 0:
-        plan = full_plan(dice)
+    if dice.below(60) == 0:
+        plan = dice.pick([full_plan, crowded_plan])(dice)
     image = plan.image()
     script.load(image, fresh=True)
     script.say("check", expect="0 0")
-    script.say("list", expect=plan.listing())
+    listed(script, plan.listing())
     if dice.chance(50):
         calls.whole_reads(script, plan)
     for j in dice.some(sorted(plan.chain), 3):
@@ -88,6 +90,12 @@ def good_case(script, dice):
     show_bytes(script, dice)
     random_calls(script, dice, plan, 3)
     return image
+
+
+def listed(script, expect=None):
+    """The listing, and a line that is answered `?` to show where it ends."""
+    if script.say("list", expect=expect) is not None:
+        script.say("?", expect="?")
 
 
 def random_calls(script, dice, plan, count):
@@ -116,7 +124,7 @@ def open_case(script, dice, image, answer):
     """An image that may be refused, with calls that must keep all its bytes."""
     script.load(image, fresh=True)
     script.number("check", expect=answer)
-    script.say("list")
+    listed(script)
     for text in dice.some(["shell", "directory", "table", "entry 1", "chain 1", "ticket 1", "rest 1", "ticket 2 64",
                            "entry 2", "chain 2", "chain 3", "chain 0"], 5):
         script.say(text)

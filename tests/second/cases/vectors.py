@@ -1,7 +1,7 @@
 """The choice of commands that is kept with its answers, group by group."""
 
 from . import between, calls, faults, mix, values
-from .cards import Plan, full_plan, random_plan
+from .cards import Plan, crowded_plan, full_plan, random_plan
 from .dice import Dice
 
 SECTORS = (4, 5, 6, 7, 8, 9, 15, 16, 17, 24, 31, 32, 33, 63, 64, 65, 127, 128, 129, 237, 255)
@@ -63,6 +63,10 @@ def check_group(script, dice):
             if len(image) < 3000 or len(image) == len(plan.image()):
                 script.load(image)
                 script.number("check", expect=answer)
+    plan = Plan(9, 48, 3)
+    for image, answer in faults.single_bits(dice, plan, plan.image(), range(40)):
+        script.load(image)
+        script.number("check", expect=answer)
     for image, answer in list(faults.smallest_cases(dice)) + list(faults.largest_cases(dice)):
         script.load(image)
         script.number("check", expect=answer)
@@ -98,8 +102,7 @@ def list_group(script, dice):
     script.load(faults.byte_set(plan.image(), plan.table_place(), 0x33))
     script.say("list", expect="refused 11 2")
     script.say("list 1", expect="?")
-    for _ in range(20):
-        plan = random_plan(dice, sparse=True)
+    for plan in [random_plan(dice, sparse=True) for _ in range(20)] + [crowded_plan(dice), full_plan(dice)]:
         script.load(plan.image())
         script.say("list", expect=plan.listing())
     for _ in range(40):
@@ -128,18 +131,18 @@ def reads_group(script, dice):
     script.say("buffer 0", expect="-")
     plans = with_tickets(dice, 2, True, False, (4, 32, 1)) + with_tickets(dice, 8, True, False)
     plans += with_tickets(dice, 14, False, True)
-    plans += with_tickets(dice, 1, False, True, (237, 255, 1))
+    plans += with_tickets(dice, 1, False, True, (237, 255, 1)) + [crowded_plan(dice)]
     for plan in plans:
         good = plan.image()
         script.load(good)
         calls.whole_reads(script, plan)
-        for j in dice.some(sorted(plan.chain), 6):
+        for j in dice.some(sorted(plan.chain), 6) + [max(plan.chain)]:
             calls.product_reads(script, plan, j)
         calls.entry_calls(script, dice, plan)
         for j in dice.some(calls.tickets(plan), 2):
             script.load(good)
             calls.buffer_calls(script, dice, plan, j, plan.product_length(j) < 600)
-            calls.ticket_calls(script, dice, plan, good, j)
+            calls.ticket_calls(script, dice, plan, good, j, plan.product_length(j) < 100)
     for plan in plans[:6]:
         for number in range(1, 12):
             for image, answer in dice.some(faults.BY_NUMBER[number](dice, plan, plan.image()), 1):
@@ -195,7 +198,8 @@ def steps_group(script, dice):
             text = calls.random_step(dice, plan)
             script.number(text, expect=(2, 0))
         whole()
-    larger = with_tickets(dice, 16, False, True) + with_tickets(dice, 1, False, True, (237, 255, 1)) + [full_plan(dice)]
+    larger = with_tickets(dice, 16, False, True) + with_tickets(dice, 1, False, True, (237, 255, 1))
+    larger += [full_plan(dice), crowded_plan(dice)]
     for plan in larger:
         good = plan.image()
         script.load(good)

@@ -1,13 +1,9 @@
--- `walks::last` meets its contract: one step of the walk, by comparing the element.
--- Assumes nothing.
-use mathlib.Core.Path.{_≡_, sym, ap, _∙_}
-use Prim.Native.Nat.{ℕ, _<_, _-_}
+-- `chains::last` meets its contract: one step of the walk, by comparing the element; `allowed` falls. Assumes nothing.
 use native.Mathlib.Omega.{arith}
 use borrow.Author.Needs.{needs}
-use Rattle.chains.specs.Chain.{walk}
-use Rattle.chains.specs.Packed.{packed, told, lastTold}
-use Rattle.chains.proofs.Unfold.{told-none}
-use Rattle.chains.proofs.Ways.{stop-fresh, stop-zero, stop-above, stop-end, goes-on, stepped}
+use Rattle.chains.specs.Packed.{packed}
+use Rattle.chains.proofs.Unfold.{stop-none, tested-bad, tested-end, tested-on, goes-on}
+use Prim.Native.Nat.{ℕ, _<_}
 use borrow.Fn.Kinds.{In}
 use borrow.Fn.PlainCycle.{Measures, is, falls, and}
 use Rattle.chains.proofs.last.Reads as last
@@ -26,66 +22,60 @@ last-at t = and 2 last-kinds.ps (is 2 last-kinds.ps μ-last t) last.Pre
 abbrev last-below : ℕ → In 2 last-kinds.ps
 last-below t = and 2 last-kinds.ps (falls 2 last-kinds.ps _<_ μ-last t) last.Pre
 
+-- what is known of `element`, and of `last` itself with fewer allowed
 abbrev claims : ℕ → last-lts.Claims
 claims t = (element-reads.Asked, element-reads.Learnt, last-below t, last.Post)
 
 last-returns : (t : ℕ) → last-lts.Need-returns (claims t) (last-at t) last.Post
-last-returns t c = let a = c .before .args in ap lastTold (told-none (packed (a .l .now .now) (a .first) (a .psi)) (a .sectors) (a .i) (a .allowed) (c .if1 .taken))
+last-returns t c = let a = c .before .args in stop-none (packed (a .l .now .now) (a .first) (a .psi)) (a .sectors) (a .i) (a .allowed) (c .if1 .taken)
 
 last-element-requires : (t : ℕ) → last-lts.Need-element-requires (claims t) (last-at t) last.Post
 last-element-requires t c κs = search needs
 
+last-sub-if2 : (t : ℕ) → last-lts.Need-sub-if2 (claims t) (last-at t) last.Post
+last-sub-if2 t c = search needs
+
+last-sub-if3 : (t : ℕ) → last-lts.Need-sub-if3 (claims t) (last-at t) last.Post
+last-sub-if3 t c = search needs
+
 last-returns-2 : (t : ℕ) → last-lts.Need-returns-2 (claims t) (last-at t) last.Post
 last-returns-2 t c =
-    let a = c .before .before .before .before .args in
-    let f : ℕ → ℕ = packed (a .l .now .now) (a .first) (a .psi) in
-    stop-fresh (a .sectors) (a .i) (c .before .element .result) (search needs) (λ (y : ℕ). lastTold (told (walk f (a .sectors) y (a .allowed - 1)))) (c .if2 .taken)
-    ∙ stepped f (a .sectors) (a .i) (a .allowed) (c .before .element .result) (c .before .before .before .if1 .left) (c .before .element .ensures)
+    let o = c .before .before in
+    let a = o .before .before .before .args in
+    tested-bad (packed (a .l .now .now) (a .first) (a .psi)) (a .sectors) (a .i) (a .allowed) (o .element .result) (search needs) (o .before .before .if1 .left) (o .element .ensures) (c .if3 .taken)
+
+last-sub-result : (t : ℕ) → last-lts.Need-sub-result (claims t) (last-at t) last.Post
+last-sub-result t c = search needs
+
+last-mul-result : (t : ℕ) → last-lts.Need-mul-result (claims t) (last-at t) last.Post
+last-mul-result t c = search needs
+
+last-add-result : (t : ℕ) → last-lts.Need-add-result (claims t) (last-at t) last.Post
+last-add-result t c = search needs
 
 last-returns-3 : (t : ℕ) → last-lts.Need-returns-3 (claims t) (last-at t) last.Post
 last-returns-3 t c =
-    let a = c .before .before .before .before .before .args in
-    let f : ℕ → ℕ = packed (a .l .now .now) (a .first) (a .psi) in
-    stop-zero (a .sectors) (a .i) (c .before .before .element .result) (search needs) (λ (y : ℕ). lastTold (told (walk f (a .sectors) y (a .allowed - 1)))) (c .before .if2 .left) (c .if3 .taken)
-    ∙ stepped f (a .sectors) (a .i) (a .allowed) (c .before .before .element .result) (c .before .before .before .before .if1 .left) (c .before .before .element .ensures)
-
-last-sub-if4 : (t : ℕ) → last-lts.Need-sub-if4 (claims t) (last-at t) last.Post
-last-sub-if4 t c = search needs
-
-last-sub-if5 : (t : ℕ) → last-lts.Need-sub-if5 (claims t) (last-at t) last.Post
-last-sub-if5 t c = search needs
-
-last-returns-4 : (t : ℕ) → last-lts.Need-returns-4 (claims t) (last-at t) last.Post
-last-returns-4 t c =
-    let a = c .before .before .before .before .before .before .before .args in
-    let f : ℕ → ℕ = packed (a .l .now .now) (a .first) (a .psi) in
-    stop-above (a .sectors) (a .i) (c .before .before .before .before .element .result) (search needs) (λ (y : ℕ). lastTold (told (walk f (a .sectors) y (a .allowed - 1)))) (c .before .before .before .if2 .left) (omega arith)
-    ∙ stepped f (a .sectors) (a .i) (a .allowed) (c .before .before .before .before .element .result) (c .before .before .before .before .before .before .if1 .left) (c .before .before .before .before .element .ensures)
-
-last-returns-5 : (t : ℕ) → last-lts.Need-returns-5 (claims t) (last-at t) last.Post
-last-returns-5 t c =
-    let a = c .before .before .before .before .before .before .before .args in
-    let f : ℕ → ℕ = packed (a .l .now .now) (a .first) (a .psi) in
-    stop-end (a .sectors) (a .i) (c .before .before .before .before .element .result) (search needs) (λ (y : ℕ). lastTold (told (walk f (a .sectors) y (a .allowed - 1)))) (c .before .before .before .if2 .left) (omega arith) (omega arith)
-    ∙ stepped f (a .sectors) (a .i) (a .allowed) (c .before .before .before .before .element .result) (c .before .before .before .before .before .before .if1 .left) (c .before .before .before .before .element .ensures)
+    let o = c .before .before in
+    let a = o .before .before .before .args in
+    tested-end (packed (a .l .now .now) (a .first) (a .psi)) (a .sectors) (a .i) (a .allowed) (o .element .result) (search needs) (o .before .before .if1 .left) (o .element .ensures) (c .before .if2 .taken) (c .if3 .left)
 
 last-sub-last : (t : ℕ) → last-lts.Need-sub-last (claims t) (last-at t) last.Post
 last-sub-last t c = search needs
 
 last-last-requires : (t : ℕ) → last-lts.Need-last-requires (claims t) (last-at t) last.Post
 last-last-requires t c κs =
-    let o = c .before .before .before .before .before .before in
-    let n = c .before .before .before .before .before .if1 .left in
-    let z = c .before .if3 .left in
-    (omega arith, (o .pre .1 .0, record { low = omega arith; high = omega arith }))
+    let o = c .before .before .before .before in
+    let a = o .args in
+    let n = c .before .before .before .if1 .left in
+    let q = tested-on (a .sectors) (a .i) (c .before .element .result) (c .if2 .left) in
+    (omega arith, (o .pre .1 .0, (record { low = omega (arith, q .1); high = q .2 }, omega arith)))
 
-last-returns-6 : (t : ℕ) → last-lts.Need-returns-6 (claims t) (last-at t) last.Post
-last-returns-6 t c =
-    let a = c .before .before .before .before .before .before .before .args in
-    let f : ℕ → ℕ = packed (a .l .now .now) (a .first) (a .psi) in
-    c .last .ensures
-    ∙ goes-on (a .sectors) (a .i) (c .before .before .before .before .element .result) (search needs) (λ (y : ℕ). lastTold (told (walk f (a .sectors) y (a .allowed - 1)))) (c .before .before .before .if2 .left) (c .before .before .if3 .left) (omega arith)
-    ∙ stepped f (a .sectors) (a .i) (a .allowed) (c .before .before .before .before .element .result) (c .before .before .before .before .before .before .if1 .left) (c .before .before .before .before .element .ensures)
+last-returns-4 : (t : ℕ) → last-lts.Need-returns-4 (claims t) (last-at t) last.Post
+last-returns-4 t c =
+    let o = c .before .before in
+    let a = o .before .before .before .args in
+    let q = tested-on (a .sectors) (a .i) (o .element .result) (c .before .if2 .left) in
+    goes-on (packed (a .l .now .now) (a .first) (a .psi)) (a .sectors) (a .i) (a .allowed) (o .element .result) (search needs) (o .before .before .if1 .left) (o .element .ensures) (q .0) (q .1) (q .2) (c .last .ensures)
 
 pub +last-spec : {M : Type 1} → statement M
 +last-spec = close μ-last λ t. last-lts.spec (claims t)
@@ -93,12 +83,13 @@ pub +last-spec : {M : Type 1} → statement M
     last.Post
     (last-returns t)
     (last-element-requires t)
+    (last-sub-if2 t)
+    (last-sub-if3 t)
     (last-returns-2 t)
+    (last-sub-result t)
+    (last-mul-result t)
+    (last-add-result t)
     (last-returns-3 t)
-    (last-sub-if4 t)
-    (last-sub-if5 t)
-    (last-returns-4 t)
-    (last-returns-5 t)
     (last-sub-last t)
     (last-last-requires t)
-    (last-returns-6 t)
+    (last-returns-4 t)

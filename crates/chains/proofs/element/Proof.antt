@@ -1,28 +1,17 @@
--- `walks::element` meets its contract: the element of a sector lies within the table.
+-- `chains::element` meets its contract: the element of a sector lies within the table.
 -- Assumes nothing.
-use mathlib.Core.Path.{_≡_, refl, sym, ap, ap₂, _∙_}
-use Prim.Native.Nat.{ℕ, zero, suc, _+_, _-_, _*_, _/_, _%_, _≤_, _<_}
+use mathlib.Core.Path.{_≡_, sym, ap, _∙_}
+use Prim.Native.Nat.{ℕ, _+_, _-_, _*_, _/_, _%_, _≤_, _<_}
 use Rattle.bits.specs.Bits.{field}
 use mathlib.Core.List.{List}
 use lib.ListN.{getD, length}
 use Rattle.chains.specs.Packed.{packed}
 use Rattle.bits.proofs.Laws.{field-byte}
-use native.Mathlib.Nat.{mul-suc, mul-le-mul, mul-le-mul-left}
-use native.Mathlib.Numerals.{sub-one}
 use native.Mathlib.Omega.{arith}
 use borrow.Author.Needs.{needs}
+use Rattle.chains.proofs.Places.{small, inside}
 use Rattle.chains.proofs.element.Statement.{statement}
 use Rattle.chains.proofs.element.Tie as tie
-use Rattle.chains.proofs.element.Reads as reads
-use Rattle.chains.proofs.element.Lts as lts
-use Rattle.bits.proofs.pair.Reads as pair-reads
-
-small : (p i : ℕ) → p ≤ 8 → i ≤ 255 → p * (i - 1) ≤ 8 * 255
-small p i h k = mul-le-mul {m₂ = 255} h (omega arith)
-
-inside : (p i n : ℕ) → 1 ≤ i → i ≤ n → p * (i - 1) + p ≤ p * n
-inside p zero n a b = absurd (omega arith)
-inside p (suc k) n a b = rw sub-one (omega (arith, mul-suc p k, mul-le-mul-left p b))
 
 -- an element of eight bits is a byte
 whole-byte : (l : List ℕ) (first p i : ℕ) → p ≡ 8 → first % 8 ≡ 0 → getD l (first / 8 + (i - 1)) 0 < 256

@@ -6,7 +6,6 @@ use native.Mathlib.Nat.{mul-le-mul, mul-zero}
 use borrow.Author.Needs.{needs}
 use Rattle.chains.proofs.table_bytes.Statement.{statement}
 use Rattle.chains.proofs.table_bytes.Tie as tie
-use Rattle.chains.proofs.psi.Reads as psi-reads
 use Rattle.chains.specs.Psi.{Ψ, tableBytes}
 
 few : (s : ℕ) → s < 4 → 0 ≡ tableBytes s

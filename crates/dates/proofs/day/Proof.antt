@@ -1,13 +1,13 @@
 -- `day` meets its contract: only the stamp 0 is not its own day number. Assumes nothing.
-use Rattle.dates.proofs.Search.{day-itself}
 use mathlib.Core.Path.{ap, sym}
 use native.Mathlib.Omega.{arith}
-use borrow.Author.Needs.{needs}
+use Rattle.dates.specs.Stamps.{dayOf}
+use Rattle.dates.proofs.Stamps.{day-itself}
 use Rattle.dates.proofs.day.Statement.{statement}
 use Rattle.dates.proofs.day.Tie as tie
 
 returns : tie.Need-returns
-returns c = search needs
+returns c = sym (ap dayOf (c .if1 .taken))
 
 returns-2 : tie.Need-returns-2
 returns-2 c = sym (day-itself (c .before .args .stamp) (omega arith))

@@ -4,15 +4,10 @@ use Rattle.bits.proofs.Laws.{field-lt}
 use borrow.Author.Needs.{needs}
 use Rattle.image.proofs.at.Statement.{statement}
 use Rattle.image.proofs.at.Tie as tie
-use Rattle.image.proofs.at.Reads as reads
-use Rattle.image.proofs.at.Lts as lts
-use Rattle.bits.proofs.get.Reads as get-reads
 
--- src/lib.rt:15:5
 get-requires : tie.Need-get-requires
 get-requires c κs = search needs
 
--- src/lib.rt:11:1
 returns : tie.Need-returns
 returns c = let a = c .before .before .args in (c .get .ensures, rw (c .get .ensures) (field-lt (a .image .now) (a .first) (a .width)))
 

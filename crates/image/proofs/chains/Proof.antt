@@ -2,27 +2,20 @@
 -- Assumes nothing.
 use mathlib.Core.Path.{_≡_, refl, sym, ap, _∙_}
 use mathlib.Core.Bool.{true, false, false≢true}
-use mathlib.Core.Logic.{⊎-elim}
-use Prim.Native.Nat.{ℕ, _≤_, _<_, _-_, _+_}
+use mathlib.Core.Logic.{_≢_, ⊎-elim}
+use Prim.Native.Nat.{ℕ, _≤_, _<_, _-_, _+_, _%_}
 use native.Mathlib.Omega.{arith}
-use mathlib.Core.Logic.{_≢_}
 use borrow.Author.Count.{below-more}
 use borrow.Author.Needs.{needs}
 use lib.ListN.{length, getD, set, length-set}
+use Rattle.rules.proofs.LowestLaws.{lowest-here, lowest-none}
+use Rattle.chains.proofs.Seen.{Seen, seen-none, seen-skip, seen-hit, seen-add}
 use Rattle.image.specs.Image.{S, e#}
 use Rattle.image.specs.Rules.{sharesAt, brokenAt}
-use Rattle.image.specs.Shape.{lastAt, tellAt}
-use Rattle.rules.proofs.LowestLaws.{lowest-here, lowest-none}
-use Rattle.image.proofs.Entries.{tell-broken, tell-whole}
-use Rattle.image.proofs.Meets.{last-small, shares-meets, meets-shares}
-use Rattle.image.proofs.Seen.{Seen, seen-none, seen-skip, seen-hit, seen-add}
+use Rattle.image.proofs.Entries.{lastAt, last-small, shares-meets, meets-shares, no-number, number-broken, number-ends}
 use Rattle.image.proofs.Verdict.{says-broken, says-shared, says-none}
 use Rattle.image.proofs.chains.Statement.{statement}
 use Rattle.image.proofs.chains.Tie as tie
-use Rattle.image.proofs.chains.Reads as reads
-use Rattle.image.proofs.chains.Lts as lts
-use Rattle.image.proofs.first_broken.Reads as first-broken-reads
-use Rattle.image.proofs.tell.Reads as tell-reads
 
 abbrev Inv-loop : tie.InvT-loop
 Inv-loop image g seen₀ k₀ seen k = (1 ≤ k) × (k ≤ g .entries + 1) × (length seen ≡ 256) × Seen (lastAt image) k seen × ((a : ℕ) → a < k → 1 ≤ a → brokenAt image a ≡ true → ⊥)
@@ -33,51 +26,55 @@ abbrev μ-loop : tie.MeasureT-loop
 loop-holds : tie.Need-loop-holds Inv-loop μ-loop
 loop-holds c = (omega arith, omega arith, refl, seen-none _ 256, λ a l b e. omega arith)
 
-tell-requires : tie.Need-tell-requires Inv-loop μ-loop
-tell-requires c κs = (c .before .before .before .before .pre, omega arith)
+present-requires : tie.Need-present-requires Inv-loop μ-loop
+present-requires c κs = (c .before .before .before .before .pre, omega arith)
+
+last-of-requires : tie.Need-last-of-requires Inv-loop μ-loop
+last-of-requires c κs = (c .before .before .before .before .before .before .pre, omega arith)
 
 returns : tie.Need-returns Inv-loop μ-loop
 returns c =
-    let o = c .before .before .before .before .before .before in
-    let l = c .before .before .before .before .loop in
+    let t = c .before in
+    let o = t .before .before .before .before .before .before .before in
+    let l = t .before .before .before .before .before .loop in
     let m = o .args .image .now in
-    let small = last-small m (search needs) (l .k) in
     says-broken _ (o .args .g)
-    (lowest-here (e# m) (brokenAt m) (l .k) (l .inv .0) (omega arith) (tell-broken m (l .k) (omega (arith, small)) (sym (c .before .tell .ensures) ∙ c .if2 .taken)) (l .inv .4))
+    (lowest-here (e# m) (brokenAt m) (l .k) (l .inv .0) (omega arith)
+    (number-broken m (search needs) (search needs) (l .k) (t .last-of .result) (sym (t .before .before .present .ensures) ∙ t .before .if2 .taken) (t .last-of .ensures) (c .if3 .taken)) (l .inv .4))
     (omega (arith, l .inv .0))
 
--- the last sector of a chain that is not broken
-known : (c : tie.After-tell Inv-loop μ-loop) → c .tell .result ≢ 256 → c .tell .result ≡ lastAt (c .before .before .before .before .before .args .image .now) (c .before .before .before .loop .k)
-known c n = c .tell .ensures ∙ tell-whole _ _ (λ q. n (c .tell .ensures ∙ q)) .1
-
-small : (c : tie.After-tell Inv-loop μ-loop) → c .tell .result ≢ 256 → c .tell .result < 256
-small c n =
-    let o = c .before .before .before .before .before in
-    omega (arith, known c n, last-small (o .args .image .now) (search needs) (c .before .before .before .loop .k))
+-- what the walk's number tells of a chain that is not broken
+known : (c : tie.After-last-of Inv-loop μ-loop) → c .last-of .result ≢ 0 →
+    (let m = c .before .before .before .before .before .before .before .args .image .now in let k = c .before .before .before .before .before .loop .k in
+    (brokenAt m k ≡ false) × (c .last-of .result % 256 ≡ lastAt m k) × (lastAt m k ≢ 0))
+known c z =
+    let o = c .before .before .before .before .before .before .before in
+    number-ends (o .args .image .now) (search needs) (search needs) (c .before .before .before .before .before .loop .k) (c .last-of .result) (sym (c .before .before .present .ensures) ∙ c .before .if2 .taken) (c .last-of .ensures) z
 
 array-read-if4 : tie.Need-array-read-if4 Inv-loop μ-loop
-array-read-if4 c = small (c .before .before) (c .before .if2 .left)
+array-read-if4 c = omega arith
 
 first-broken-requires : tie.Need-first-broken-requires Inv-loop μ-loop
-first-broken-requires c κs = c .before .before .before .before .before .before .before .before .pre
+first-broken-requires c κs = c .before .before .before .before .before .before .before .before .before .pre
 
 returns-2 : tie.Need-returns-2 Inv-loop μ-loop
-returns-2 c = says-broken _ (c .before .before .before .before .before .before .before .before .before .before .args .g) (c .before .first-broken .ensures) (c .if5 .taken)
+returns-2 c = says-broken _ (c .before .before .before .before .before .before .before .before .before .before .before .args .g) (c .before .first-broken .ensures) (c .if5 .taken)
 
 returns-3 : tie.Need-returns-3 Inv-loop μ-loop
 returns-3 c =
-    let o = c .before .before .before .before .before .before .before .before .before .before in
-    let l = c .before .before .before .before .before .before .before .before .loop in
+    let t = c .before .before .before .before in
+    let o = t .before .before .before .before .before .before .before in
+    let l = t .before .before .before .before .before .loop in
     let m = o .args .image .now in
-    let e = known (c .before .before .before .before .before) (c .before .before .before .before .if2 .left) in
-    let h = seen-hit (lastAt m) (l .k) (l .inv .0) (l .seen) (l .inv .3) (rw e at (c .before .before .before .if3 .taken)) (rw e at (c .before .before .if4 .taken)) in
+    let n = known t (c .before .before .before .if3 .left) in
+    let h = seen-hit (lastAt m) (l .k) (l .inv .0) (l .seen) (l .inv .3) (n .2) (rw (n .1) at (c .before .before .if4 .taken)) in
     says-shared (o .args .g) (sym (c .if5 .left) ∙ c .before .first-broken .ensures)
     (lowest-here (e# m) (sharesAt m) (l .k) (l .inv .0) (omega arith) (meets-shares m (search needs) (l .k) h)
     (λ a w b q. l .inv .3 .clean a w (shares-meets m (search needs) a q)))
     (omega (arith, l .inv .0))
 
 array-write-seen : tie.Need-array-write-seen Inv-loop μ-loop
-array-write-seen c = small (c .before .before .before) (c .before .before .if2 .left)
+array-write-seen c = omega arith
 
 add-k : tie.Need-add-k Inv-loop μ-loop
 add-k c = search needs
@@ -87,22 +84,23 @@ loop-less c = search needs
 
 loop-again : tie.Need-loop-again Inv-loop μ-loop
 loop-again c =
-    let o = c .before .before .before .before .before .before .before in
-    let l = c .before .before .before .before .before .loop in
+    let o = c .before .before .before .before .before .before in
+    let l = c .before .before .before .before .loop in
     let m = o .args .image .now in
     let f = lastAt m in
-    let t = c .before .before in
-    let u = c .before .if2 .left in
-    let e = known t u in
-    let h = small t u in
-    let n = l .inv .2 in
-    let b = tell-whole m (l .k) (λ q. u (t .tell .ensures ∙ q)) .0 in
+    let x = c .before .present .ensures in
     let r =
-    ⊎-elim {C = (length (c .if3 .seen) ≡ 256) × Seen f (l .k + 1) (c .if3 .seen)}
-    (λ w. (ap length (w .2) ∙ length-set (l .seen) (t .tell .result) 1 ∙ n, rw (w .2, e) (seen-add f (l .k) (l .inv .0) (l .seen) (l .inv .3) (omega (arith, e)) (rw e at (w .1 .left)))))
-    (λ w. (ap length (w .1) ∙ n, rw (w .1) (seen-skip f (l .k) (l .inv .0) (l .seen) (l .inv .3) (sym e ∙ w .0 .left))))
-    (c .if3 .came) in
-    (omega arith, omega arith, r .0, r .1, below-more _ _ (l .inv .4) (λ a q. false≢true (sym b ∙ q)))
+    ⊎-elim {C = (length (c .if2 .seen) ≡ 256) × Seen f (l .k + 1) (c .if2 .seen) × (brokenAt m (l .k) ≡ false)}
+    (λ w.
+    let t : tie.After-last-of Inv-loop μ-loop = record { before = record { before = c .before; if2 = w .0 }; last-of = w .1 } in
+    let n = known t (w .2 .left) in
+    let e = n .1 in
+    (ap length (w .4) ∙ length-set (l .seen) (t .last-of .result % 256) 1 ∙ l .inv .2, rw (w .4, e) (seen-add f (l .k) (l .inv .0) (l .seen) (l .inv .3) (omega (arith, e, l .inv .2)) (rw e at (w .3 .left))), n .0))
+    (λ w.
+    let n = no-number m (search needs) (l .k) (sym x ∙ w .0 .left) in
+    (ap length (w .1) ∙ l .inv .2, rw (w .1) (seen-skip f (l .k) (l .inv .0) (l .seen) (l .inv .3) (n .1)), n .0))
+    (c .if2 .came) in
+    (omega arith, omega arith, r .0, r .1, below-more _ _ (l .inv .4) (λ a q. false≢true (sym (r .2) ∙ q)))
 
 returns-4 : tie.Need-returns-4 Inv-loop μ-loop
 returns-4 c =
@@ -119,7 +117,8 @@ chains-spec =
     Inv-loop
     μ-loop
     loop-holds
-    tell-requires
+    present-requires
+    last-of-requires
     returns
     array-read-if4
     first-broken-requires

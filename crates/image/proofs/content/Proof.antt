@@ -1,89 +1,85 @@
-use mathlib.Core.Path.{_≡_, refl}
+-- `image::content` meets its contract: each test is that of its rule, and the shell's bytes start at byte 4. Assumes nothing.
+use mathlib.Core.Path.{_≡_}
+use Prim.Native.Nat.{_-_, _*_}
+use Rattle.bits.proofs.Laws.{field-drop}
 use Rattle.rules.specs.Claim.{first}
-use Rattle.image.specs.Image.{shellPad}
+use Rattle.image.specs.Image.{shellPad, dataset}
 use borrow.Author.Needs.{needs}
 use Rattle.image.proofs.content.Statement.{statement}
 use Rattle.image.proofs.content.Tie as tie
-use Rattle.image.proofs.content.Reads as reads
-use Rattle.image.proofs.content.Lts as lts
-use Rattle.image.proofs.at.Reads as at-reads
-use Rattle.image.proofs.digits.Reads as digits-reads
-use Rattle.image.proofs.need.Reads as need-reads
-use Rattle.image.proofs.sealed_right.Reads as sealed-right-reads
-use Rattle.image.proofs.table_pad.Reads as table-pad-reads
-use Rattle.image.proofs.zeros.Reads as zeros-reads
 
--- src/lib.rt:188:40
-sub-zeros : tie.Need-sub-zeros
-sub-zeros c = search needs
-
--- src/lib.rt:188:23
-zeros-requires : tie.Need-zeros-requires
-zeros-requires c κs = search needs
-
--- src/lib.rt:188:65
 table-pad-requires : tie.Need-table-pad-requires
 table-pad-requires c κs = search needs
 
--- src/lib.rt:188:57
 need-requires : tie.Need-need-requires
 need-requires c κs = search needs
 
--- src/lib.rt:188:9
+sub-zeros : tie.Need-sub-zeros
+sub-zeros c = search needs
+
+zeros-requires : tie.Need-zeros-requires
+zeros-requires c κs = search needs
+
 need-requires-2 : tie.Need-need-requires-2
 need-requires-2 c κs = search needs
 
--- src/lib.rt:189:23
-at-requires : tie.Need-at-requires
-at-requires c κs = search needs
+of-shell-requires : tie.Need-of-shell-requires
+of-shell-requires c κs = search needs
 
--- src/lib.rt:189:9
-need-requires-3 : tie.Need-need-requires-3
-need-requires-3 c κs = search needs
-
--- src/lib.rt:190:24
 digits-requires : tie.Need-digits-requires
 digits-requires c κs = search needs
 
--- src/lib.rt:190:9
-need-requires-4 : tie.Need-need-requires-4
-need-requires-4 c κs = search needs
+need-requires-3 : tie.Need-need-requires-3
+need-requires-3 c κs = search needs
 
--- src/lib.rt:191:23
+of-shell-requires-2 : tie.Need-of-shell-requires-2
+of-shell-requires-2 c κs = search needs
+
 digits-requires-2 : tie.Need-digits-requires-2
 digits-requires-2 c κs = search needs
 
--- src/lib.rt:191:9
+need-requires-4 : tie.Need-need-requires-4
+need-requires-4 c κs = search needs
+
+of-shell-requires-3 : tie.Need-of-shell-requires-3
+of-shell-requires-3 c κs = search needs
+
+digits-requires-3 : tie.Need-digits-requires-3
+digits-requires-3 c κs = search needs
+
 need-requires-5 : tie.Need-need-requires-5
 need-requires-5 c κs = search needs
 
--- src/lib.rt:192:13
 sealed-right-requires : tie.Need-sealed-right-requires
 sealed-right-requires c κs = search needs
 
--- src/lib.rt:192:5
 need-requires-6 : tie.Need-need-requires-6
 need-requires-6 c κs = search needs
 
--- src/lib.rt:184:1
 returns : tie.Need-returns
 unfolding first shellPad
-returns c = cc
+returns c =
+    let o = c .before .before .before .before .before .before .before .before .before .before .before .before .before .before .before .before .before in
+    let m = o .args .image .now in
+    rw (c .need6 .ensures, c .before .sealed-right .ensures, c .before .before .need5 .ensures, c .before .before .before .digits3 .ensures, c .before .before .before .before .of-shell3 .ensures .0, c .before .before .before .before .before .need4 .ensures, c .before .before .before .before .before .before .digits2 .ensures, c .before .before .before .before .before .before .before .of-shell2 .ensures .0, c .before .before .before .before .before .before .before .before .need3 .ensures, c .before .before .before .before .before .before .before .before .before .digits .ensures, c .before .before .before .before .before .before .before .before .before .before .of-shell .ensures .0, c .before .before .before .before .before .before .before .before .before .before .before .need2 .ensures, c .before .before .before .before .before .before .before .before .before .before .before .before .zeros .ensures, c .before .before .before .before .before .before .before .before .before .before .before .before .before .before .need .ensures, c .before .before .before .before .before .before .before .before .before .before .before .before .before .before .before .table-pad .ensures, o .pre .dataset-is, field-drop m 4 160 (8 * (dataset m - 22)))
 
 pub content-spec : {M : Type 1} → statement M
 content-spec =
     tie.close
     (tie.spec
-    sub-zeros
-    zeros-requires
     table-pad-requires
     need-requires
+    sub-zeros
+    zeros-requires
     need-requires-2
-    at-requires
-    need-requires-3
+    of-shell-requires
     digits-requires
-    need-requires-4
+    need-requires-3
+    of-shell-requires-2
     digits-requires-2
+    need-requires-4
+    of-shell-requires-3
+    digits-requires-3
     need-requires-5
     sealed-right-requires
     need-requires-6

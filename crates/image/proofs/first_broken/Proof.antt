@@ -11,9 +11,6 @@ use Rattle.image.specs.Rules.{brokenAt}
 use Rattle.rules.proofs.LowestLaws.{lowest-here, lowest-none}
 use Rattle.image.proofs.first_broken.Statement.{statement}
 use Rattle.image.proofs.first_broken.Tie as tie
-use Rattle.image.proofs.first_broken.Reads as reads
-use Rattle.image.proofs.first_broken.Lts as lts
-use Rattle.image.proofs.broken_at.Reads as broken-at-reads
 
 abbrev Inv-loop : tie.InvT-loop
 Inv-loop image g k₀ k = (1 ≤ k) × (k ≤ g .entries + 1) × ((a : ℕ) → a < k → 1 ≤ a → brokenAt image a ≡ true → ⊥)
@@ -21,37 +18,30 @@ Inv-loop image g k₀ k = (1 ≤ k) × (k ≤ g .entries + 1) × ((a : ℕ) → 
 abbrev μ-loop : tie.MeasureT-loop
 μ-loop image g k₀ k = g .entries + 1 - k
 
--- src/lib.rt:299:5
 loop-holds : tie.Need-loop-holds Inv-loop μ-loop
 loop-holds c = (omega arith, omega arith, λ a l b e. omega arith)
 
--- src/lib.rt:300:12
 broken-at-requires : tie.Need-broken-at-requires Inv-loop μ-loop
 broken-at-requires c κs = (c .before .before .before .before .pre, omega arith)
 
--- src/lib.rt:301:13
 returns : tie.Need-returns Inv-loop μ-loop
 returns c =
     let o = c .before .before .before .before .before .before in
     let l = c .before .before .before .before .loop in
     lowest-here (e# (o .args .image .now)) (brokenAt (o .args .image .now)) (l .k) (l .inv .0) (omega arith) (sym (c .before .broken-at .ensures) ∙ c .if2 .taken) (l .inv .2)
 
--- src/lib.rt:303:9
 add-k : tie.Need-add-k Inv-loop μ-loop
 add-k c = search needs
 
--- src/lib.rt:299:5
 loop-less : tie.Need-loop-less Inv-loop μ-loop
 loop-less c = search needs
 
--- src/lib.rt:299:5
 loop-again : tie.Need-loop-again Inv-loop μ-loop
 loop-again c =
     let l = c .before .before .before .before .loop in
     let e = sym (c .if2 .left) ∙ c .before .broken-at .ensures in
     (omega arith, omega arith, below-more _ _ (l .inv .2) (λ a h. false≢true (e ∙ h)))
 
--- src/lib.rt:294:1
 returns-2 : tie.Need-returns-2 Inv-loop μ-loop
 returns-2 c =
     let o = c .before .before .before .before in

@@ -1,29 +1,21 @@
 use mathlib.Core.Path.{_≡_, refl, _∙_}
 use native.Mathlib.Omega.{arith}
-use Rattle.image.specs.Shape.{inside, walked-is}
+use Rattle.image.proofs.Shapes.{inside, walked-is}
 use borrow.Author.Needs.{needs}
 use Rattle.image.proofs.walk_of.Statement.{statement}
 use Rattle.image.proofs.walk_of.Tie as tie
-use Rattle.image.proofs.walk_of.Reads as reads
-use Rattle.image.proofs.walk_of.Lts as lts
-use Rattle.image.proofs.table_of.Reads as table-of-reads
-use Rattle.chains.proofs.walk.Reads as walk-reads
 
--- src/lib.rt:252:24
 table-of-requires : tie.Need-table-of-requires
 table-of-requires c κs = search needs
 
--- src/lib.rt:252:40
 sub-walk : tie.Need-sub-walk
 sub-walk c = search needs
 
--- src/lib.rt:252:5
 walk-requires : tie.Need-walk-requires
 walk-requires c κs =
     let o = c .before .before .before in
     rw (c .before .table-of .ensures) (inside (o .pre .0), (record { low = search needs; high = search needs }, search needs))
 
--- src/lib.rt:247:1
 returns : tie.Need-returns
 returns c = rw (c .walk .ensures, c .before .before .table-of .ensures) (walked-is (c .before .before .before .before .pre .0) _)
 

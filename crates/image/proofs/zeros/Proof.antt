@@ -13,8 +13,6 @@ use Rattle.bits.specs.Bits.{field}
 use Rattle.bits.proofs.Laws.{field-next, field-zero}
 use Rattle.image.proofs.zeros.Statement.{statement}
 use Rattle.image.proofs.zeros.Tie as tie
-use Rattle.image.proofs.zeros.Reads as reads
-use Rattle.image.proofs.zeros.Lts as lts
 
 abbrev Inv-loop : tie.InvT-loop
 Inv-loop image from count ok₀ k₀ ok k = (k ≤ count) × (ok ≡ eqb (field image (8 * from) (8 * k)) 0)
@@ -35,34 +33,27 @@ turn l from k ok h e = rw (e, field-next l from k h) (parts (field l (8 * from) 
 abbrev μ-loop : tie.MeasureT-loop
 μ-loop image from count ok₀ k₀ ok k = count - k
 
--- src/lib.rt:106:5
 loop-holds : tie.Need-loop-holds Inv-loop μ-loop
 loop-holds c = (search needs, rw (field-zero (c .args .image .now) (8 * c .args .from)))
 
--- src/lib.rt:107:26
 add-ok : tie.Need-add-ok Inv-loop μ-loop
 add-ok c = search needs
 
--- src/lib.rt:107:20
 shared-slice-read-ok : tie.Need-shared-slice-read-ok Inv-loop μ-loop
 shared-slice-read-ok c = search needs
 
--- src/lib.rt:108:9
 add-k : tie.Need-add-k Inv-loop μ-loop
 add-k c = search needs
 
--- src/lib.rt:106:5
 loop-less : tie.Need-loop-less Inv-loop μ-loop
 loop-less c = search needs
 
--- src/lib.rt:106:5
 loop-again : tie.Need-loop-again Inv-loop μ-loop
 loop-again c =
     let l = c .before .before .loop in
     let a = c .before .before .before .args in
     (search needs, turn (a .image .now) (a .from) (l .k) (l .ok) (c .shared-slice-known .given (a .from + l .k) .fits) (l .inv .1))
 
--- src/lib.rt:100:1
 returns : tie.Need-returns Inv-loop μ-loop
 returns c =
     let l = c .before .loop in

@@ -1,8 +1,8 @@
--- `calendar::month_of` meets its contract: no month is longer than 32 days, and the months fall behind by less than one month in a year. Assumes nothing.
-use mathlib.Core.Path.{sym}
+-- `calendar::month_of` meets its contract: the month that holds the day is the one that it tries first, or the next. Assumes nothing.
 use native.Mathlib.Omega.{arith}
 use borrow.Author.Needs.{needs}
-use Rattle.dates.proofs.Months.{before-most, month-holds, next-holds}
+use Rattle.dates.proofs.Months.{before-most}
+use Rattle.dates.proofs.MonthHolds.{month-holds, next-holds}
 use Rattle.dates.proofs.calendar.month_of.Statement.{statement}
 use Rattle.dates.proofs.calendar.month_of.Tie as tie
 

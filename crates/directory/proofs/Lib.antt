@@ -1,0 +1,5 @@
+pub mod Buffer
+pub mod Places
+pub mod Round
+pub mod Rules
+pub mod TableRound

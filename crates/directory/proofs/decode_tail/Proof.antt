@@ -1,0 +1,48 @@
+-- `directory::decode_tail` meets its contract: each value is read at its place. Assumes nothing.
+use Rattle.fields.specs.Fields.{fields}
+use borrow.Author.Needs.{needs}
+use Rattle.directory.proofs.decode_tail.Statement.{statement}
+use Rattle.directory.proofs.decode_tail.Tie as tie
+
+slice-aggregate-value : tie.Need-slice-aggregate-value
+slice-aggregate-value c = search needs
+
+value-requires : tie.Need-value-requires
+value-requires c κs = search needs
+
+slice-aggregate-value-2 : tie.Need-slice-aggregate-value-2
+slice-aggregate-value-2 c = search needs
+
+value-requires-2 : tie.Need-value-requires-2
+value-requires-2 c κs = search needs
+
+slice-aggregate-value-3 : tie.Need-slice-aggregate-value-3
+slice-aggregate-value-3 c = search needs
+
+value-requires-3 : tie.Need-value-requires-3
+value-requires-3 c κs = search needs
+
+slice-aggregate-value-4 : tie.Need-slice-aggregate-value-4
+slice-aggregate-value-4 c = search needs
+
+value-requires-4 : tie.Need-value-requires-4
+value-requires-4 c κs = search needs
+
+returns : tie.Need-returns
+unfolding fields
+returns c =
+    rw (c .before .before .before .before .before .before .value .ensures, c .before .before .before .before .value2 .ensures, c .before .before .value3 .ensures, c .value4 .ensures)
+
+pub decode-tail-spec : {M : Type 1} → statement M
+decode-tail-spec =
+    tie.close
+    (tie.spec
+    slice-aggregate-value
+    value-requires
+    slice-aggregate-value-2
+    value-requires-2
+    slice-aggregate-value-3
+    value-requires-3
+    slice-aggregate-value-4
+    value-requires-4
+    returns)

@@ -1,0 +1,5 @@
+pub mod Given
+pub mod Copied
+pub mod Asked
+pub mod Known
+pub mod Places

@@ -1,0 +1,5 @@
+pub mod Asked
+pub mod Card
+pub mod Entry
+pub mod Ticket
+pub mod Checks

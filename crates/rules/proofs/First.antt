@@ -1,0 +1,44 @@
+-- What `first` gives back, exactly: 0 where every rule is kept, and n where the first that is not kept has the number n. Both follow
+-- from `found`, since no list keeps all its rules and fails one. Assumes nothing.
+use mathlib.Core.Path.{_≡_, refl, sym, subst}
+use mathlib.Core.Logic.{_↔_}
+use mathlib.Core.List.{List}
+use Prim.Native.Nat.{ℕ, _≤_}
+use native.Mathlib.Omega.{arith}
+use Rattle.rules.specs.Claim.{Rule, Kept, Fails, first}
+use Rattle.rules.proofs.ClaimLaws.{Numbered, Found, none, one, found, kept-fails, fails-one}
+
+module _ (rs : List Rule) (h : Numbered rs) where
+  pub kept-of-first : first rs ≡ 0 → Kept rs
+  kept-of-first e = go (first rs) e (found rs h)
+    where
+      go : (n : ℕ) → n ≡ 0 → Found rs n → Kept rs
+      go n e (none k) = k
+      go n e (one a f) = absurd (omega arith)
+
+  pub first-of-kept : Kept rs → first rs ≡ 0
+  first-of-kept k = go (found rs h)
+    where
+      go : {n : ℕ} → Found rs n → n ≡ 0
+      go (none k′) = refl
+      go (one a f) = absurd (kept-fails f k)
+
+  pub fails-of-first : (n : ℕ) → 1 ≤ n → first rs ≡ n → Fails rs n
+  fails-of-first n l e = go (first rs) e (found rs h)
+    where
+      go : (m : ℕ) → m ≡ n → Found rs m → Fails rs n
+      go m e (none k) = absurd (omega arith)
+      go m e (one a f) = subst (λ (x : ℕ). Fails rs x) e f
+
+  pub first-of-fails : (n : ℕ) → Fails rs n → first rs ≡ n
+  first-of-fails n f = go (found rs h)
+    where
+      go : {m : ℕ} → Found rs m → m ≡ n
+      go (none k) = absurd (kept-fails f k)
+      go (one a g) = fails-one g f
+
+  pub taken-exactly : (first rs ≡ 0) ↔ Kept rs
+  taken-exactly = (kept-of-first, first-of-kept)
+
+  pub refused-exactly : (n : ℕ) → 1 ≤ n → (first rs ≡ n) ↔ Fails rs n
+  refused-exactly n l = (fails-of-first n l, first-of-fails n)

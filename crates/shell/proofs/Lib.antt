@@ -1,0 +1,3 @@
+pub mod Dataset
+pub mod Round
+pub mod Rules

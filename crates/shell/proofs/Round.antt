@@ -1,0 +1,207 @@
+-- What is encoded is decoded, and what is decoded is encoded where the padding is zero and SECR right: the dataset is the values stored
+-- into zeros, with the checksum after them. Assumes nothing.
+use mathlib.Core.Path.{_≡_, refl, sym, ap, ap₂, _∙_}
+use mathlib.Core.Logic.{_↔_, _⊎_, inl, inr, ⊎-elim}
+use mathlib.Core.List.{List, [], _∷_, _++_, append-assoc}
+use Prim.Native.Nat.{ℕ, suc, _+_, _-_, _*_, _/_, _%_, _^_, _≤_, _<_}
+use native.Mathlib.Omega.{arith}
+use lib.ListN.{length, getD, take, drop, replicate, length-append, length-take, length-drop, length-replicate, take-append-drop, List·getD-append}
+use lib.Seq.{take-at, drop-at, length-take-le, getD-drop, getD-append-add, take-append-le}
+use Rattle.bits.specs.Bits.{Bytes, bit, field}
+use Rattle.bits.proofs.Laws.{bit-part, bit-append-left, field-byte, field-next, field-zero, bytes-take, bit-past, lt-or-le}
+use Rattle.bits.proofs.Zeros.{bytes-zeros, bit-zeros, field-of-zeros, zeros-of-field}
+use Rattle.crc.specs.Crc.{register, crc}
+use Rattle.fields.specs.Fields.{fields, stores, fit}
+use Rattle.fields.specs.Lists as lists
+use Rattle.fields.specs.declared.Layout.the-variants as layout
+use Rattle.fields.proofs.Joined.{lists-joined}
+use Rattle.fields.proofs.Laws.{fields-stores, stores-onto, bytes-stores, bit-stores-out}
+use Rattle.fields.proofs.Same.{fields-same, fields-front}
+use Rattle.rules.specs.Claim.{Means, Kept, Fails, first}
+use Rattle.rules.specs.declared.Written.{Written}
+use Rattle.rules.specs.Written.{writtenOf, ifDone}
+use Rattle.rules.proofs.First.{kept-of-first, taken-exactly, refused-exactly}
+use Rattle.shell.specs.declared.Shell.{Shell}
+use Rattle.shell.specs.Shell.{valuesIn, datasetOf, padding, SECR, sealed}
+use Rattle.shell.specs.Encode.{decodeOf, encodeRules, encodeNumber, encodeIn, bodyOf, secrBytes, dataset}
+use Rattle.shell.proofs.Rules.{numbered, Taken, taken}
+use Rattle.shell.proofs.Dataset.{length-body}
+
+-- ---- exactly, in order, and one answer
+
+-- taken exactly where every rule is kept; refused with a number exactly where a rule of that number is the first that fails
+pub encode-taken : (vs : List ℕ) (room : ℕ) → (encodeNumber vs room ≡ 0) ↔ Kept (encodeRules vs room)
+unfolding encodeNumber
+encode-taken vs room = taken-exactly (encodeRules vs room) (numbered vs room)
+
+pub encode-refused : (vs : List ℕ) (room n : ℕ) → 1 ≤ n → (encodeNumber vs room ≡ n) ↔ Fails (encodeRules vs room) n
+unfolding encodeNumber
+encode-refused vs room n h = refused-exactly (encodeRules vs room) (numbered vs room) n h
+
+pub encode-unique : (vs l : List ℕ) {r r′ : Written} {m m′ : List ℕ}
+    → (r ≡ writtenOf (encodeNumber vs (length l))) × (m ≡ encodeIn vs l)
+    → (r′ ≡ writtenOf (encodeNumber vs (length l))) × (m′ ≡ encodeIn vs l)
+    → (r ≡ r′) × (m ≡ m′)
+encode-unique vs l p q = (p .0 ∙ sym (q .0), p .1 ∙ sym (q .1))
+
+-- ---- the dataset
+
+crc-small : (l : List ℕ) → crc l < 65536
+unfolding crc
+crc-small l = omega arith
+
+bytes-body : (vs : List ℕ) → Bytes (bodyOf vs)
+unfolding bodyOf
+bytes-body vs = bytes-stores (replicate (datasetOf vs - 2) 0) lists.shell vs (bytes-zeros (datasetOf vs - 2))
+
+bit-body : (vs : List ℕ) (i : ℕ) → 160 ≤ i → bit (bodyOf vs) i ≡ 0
+unfolding bodyOf
+bit-body vs i h =
+    bit-stores-out 0 lists.shell 160 (lists-joined layout.Shell) (replicate (datasetOf vs - 2) 0) vs i (inr h) ∙ bit-zeros (datasetOf vs - 2) i
+
+pub length-dataset : (vs : List ℕ) → 22 ≤ datasetOf vs → length (dataset vs) ≡ datasetOf vs
+unfolding dataset
+length-dataset vs h = omega (arith, length-append (bodyOf vs) (secrBytes (crc (bodyOf vs))), length-body vs)
+
+front-dataset : (vs : List ℕ) → take (datasetOf vs - 2) (dataset vs) ≡ bodyOf vs
+unfolding dataset
+front-dataset vs = take-at (bodyOf vs) (secrBytes (crc (bodyOf vs))) (datasetOf vs - 2) (length-body vs)
+
+bit-dataset : (vs : List ℕ) (i : ℕ) → i < 8 * (datasetOf vs - 2) → bit (dataset vs) i ≡ bit (bodyOf vs) i
+unfolding dataset
+bit-dataset vs i h = bit-append-left (bodyOf vs) (secrBytes (crc (bodyOf vs))) i (omega (arith, length-body vs))
+
+last-byte : (vs : List ℕ) (k : ℕ) → getD (dataset vs) (datasetOf vs - 2 + k) 0 ≡ getD (secrBytes (crc (bodyOf vs))) k 0
+unfolding dataset
+last-byte vs k =
+    rw (← length-body vs) (getD-append-add (bodyOf vs) (secrBytes (crc (bodyOf vs))) k 0)
+
+made : (vs : List ℕ) {b : List ℕ} → bodyOf vs ≡ b → dataset vs ≡ b ++ secrBytes (crc b)
+unfolding dataset
+made vs e = rw e
+
+-- two bytes are one number, the first the high one
+two-bytes : (l : List ℕ) (a : ℕ) → getD l (a + 0) 0 < 256 → getD l (a + 1) 0 < 256
+    → field l (8 * a) 16 ≡ getD l (a + 0) 0 * 256 + getD l (a + 1) 0
+two-bytes l a h k =
+    let e = field-next l a 1 k in
+    let f = field-next l a 0 h in
+    let z = field-zero l (8 * a) in
+    omega arith
+
+module _ (vs : List ℕ) (room : ℕ) (k : encodeNumber vs room ≡ 0) where
+  -- what was encoded has zero padding and a right SECR
+  pub padding-zero : padding (dataset vs) (datasetOf vs) ≡ 0
+  padding-zero =
+      let t = taken vs room k in
+      field-of-zeros (dataset vs) 160 (8 * (datasetOf vs - 22))
+      (λ j h. bit-dataset vs (160 + j) (omega arith) ∙ bit-body vs (160 + j) (omega arith))
+
+  pub secr-right : SECR (dataset vs) (datasetOf vs) ≡ crc (sealed (dataset vs) (datasetOf vs))
+  secr-right =
+      let b = crc-small (bodyOf vs) in
+      let p = last-byte vs 0 in
+      let q = last-byte vs 1 in
+      rw (front-dataset vs) (two-bytes (dataset vs) (datasetOf vs - 2) (omega arith) (omega arith) ∙ omega arith)
+
+  values-body : length vs ≡ 16 → fields (bodyOf vs) lists.shell ≡ vs
+  unfolding bodyOf encodeNumber
+  values-body n =
+      let t = taken vs room k in
+      fields-stores 0 lists.shell 160 (lists-joined layout.Shell) (replicate (datasetOf vs - 2) 0) vs
+      (omega (arith, length-replicate {A = ℕ} (datasetOf vs - 2) 0))
+      (record { many = n; low = kept-of-first (encodeRules vs room) (numbered vs room) k .0 })
+
+  values-dataset : length vs ≡ 16 → valuesIn (dataset vs) ≡ vs
+  values-dataset n =
+      let t = taken vs room k in
+      fields-same 0 lists.shell 160 (lists-joined layout.Shell) (dataset vs) (bodyOf vs) (λ i x y. bit-dataset vs i (omega arith)) ∙ values-body n
+
+module _ (vs l : List ℕ) (k : encodeNumber vs (length l) ≡ 0) where
+  -- the buffer holds the dataset, and later bytes stay
+  pub encoded : encodeIn vs l ≡ dataset vs ++ drop (datasetOf vs) l
+  encoded = rw k
+
+  pub dataset-first : take (datasetOf vs) (encodeIn vs l) ≡ dataset vs
+  dataset-first = ap (take (datasetOf vs)) encoded ∙ take-at (dataset vs) (drop (datasetOf vs) l) (datasetOf vs) (length-dataset vs (taken vs (length l) k .enough))
+
+  pub later-stays : drop (datasetOf vs) (encodeIn vs l) ≡ drop (datasetOf vs) l
+  later-stays = ap (drop (datasetOf vs)) encoded ∙ drop-at (dataset vs) (drop (datasetOf vs) l) (datasetOf vs) (length-dataset vs (taken vs (length l) k .enough))
+
+  -- decoding what was encoded gives the values back
+  pub decode-encode : length vs ≡ 16 → decodeOf (take 20 (encodeIn vs l)) ≡ record { values = vs }
+  decode-encode n =
+      let t = taken vs (length l) k in
+      let e = length-dataset vs (t .enough) in
+      shell-of
+      (fields-front 0 lists.shell 160 (lists-joined layout.Shell) (encodeIn vs l) 20 (omega arith)
+      ∙ ap (λ (m : List ℕ). fields m lists.shell) encoded
+      ∙ fields-same 0 lists.shell 160 (lists-joined layout.Shell) (dataset vs ++ drop (datasetOf vs) l) (dataset vs)
+      (λ i x y. bit-append-left (dataset vs) (drop (datasetOf vs) l) i (omega arith))
+      ∙ values-dataset vs (length l) k n)
+    where
+      shell-of : {a : List ℕ} → a ≡ vs → _≡_ {A = Shell} (record { values = a }) (record { values = vs })
+      shell-of e = rw e
+
+-- refused, nothing is altered
+pub refused-stays : (vs l : List ℕ) (n : ℕ) → encodeNumber vs (length l) ≡ suc n → encodeIn vs l ≡ l
+refused-stays vs l n e = rw e
+
+-- ---- back: the bytes d of a dataset, whose values the encoder takes
+
+module _ (d : List ℕ) (bytes : Bytes d) (room : ℕ) (k : encodeNumber (valuesIn d) room ≡ 0) (n : length d ≡ datasetOf (valuesIn d)) where
+  front-is : padding d (datasetOf (valuesIn d)) ≡ 0 → bodyOf (valuesIn d) ≡ take (datasetOf (valuesIn d) - 2) d
+  unfolding bodyOf
+  front-is z =
+      let t = taken (valuesIn d) room k in
+      let m : ℕ = datasetOf (valuesIn d) - 2 in
+      let e : length (take m d) ≡ m = length-take-le m d (omega arith) in
+      let f : fields (take m d) lists.shell ≡ valuesIn d = fields-front 0 lists.shell 160 (lists-joined layout.Shell) d m (omega arith) in
+      ap (stores (replicate m 0) lists.shell) (sym f)
+      ∙ stores-onto 0 lists.shell 160 (lists-joined layout.Shell) (replicate m 0) (take m d) (bytes-zeros m) (bytes-take m d bytes)
+      (length-replicate {A = ℕ} m 0 ∙ sym e) (omega arith)
+      (λ i o. bit-zeros m i ∙ sym (pad i (⊎-elim (λ h. absurd (omega arith)) (λ h. h) o)))
+    where
+      pad : (i : ℕ) → 160 ≤ i → bit (take (datasetOf (valuesIn d) - 2) d) i ≡ 0
+      pad i h = ⊎-elim inside past (lt-or-le i (8 * (datasetOf (valuesIn d) - 2)))
+        where
+          inside : i < 8 * (datasetOf (valuesIn d) - 2) → bit (take (datasetOf (valuesIn d) - 2) d) i ≡ 0
+          inside l =
+              bit-part d 0 (datasetOf (valuesIn d) - 2) i l ∙ ap (bit d) (omega arith)
+              ∙ zeros-of-field d 160 (8 * (datasetOf (valuesIn d) - 22)) z (i - 160) (omega arith)
+
+          past : 8 * (datasetOf (valuesIn d) - 2) ≤ i → bit (take (datasetOf (valuesIn d) - 2) d) i ≡ 0
+          past l = bit-past (take (datasetOf (valuesIn d) - 2) d) i (omega (arith, length-take (datasetOf (valuesIn d) - 2) d))
+
+  last-is : SECR d (datasetOf (valuesIn d)) ≡ crc (sealed d (datasetOf (valuesIn d)))
+      → drop (datasetOf (valuesIn d) - 2) d ≡ secrBytes (crc (sealed d (datasetOf (valuesIn d))))
+  last-is s =
+      let t = taken (valuesIn d) room k in
+      let m : ℕ = datasetOf (valuesIn d) - 2 in
+      let x : ℕ = crc (sealed d (datasetOf (valuesIn d))) in
+      two-of (drop m d) x (omega (arith, length-drop m d))
+      (getD-drop m d 0 0 ∙ omega (arith, two-bytes d m (bytes (m + 0)) (bytes (m + 1)), bytes (m + 0), bytes (m + 1)))
+      (getD-drop m d 1 0 ∙ omega (arith, two-bytes d m (bytes (m + 0)) (bytes (m + 1)), bytes (m + 0), bytes (m + 1)))
+    where
+      two-of : (r : List ℕ) (x : ℕ) → length r ≡ 2 → getD r 0 0 ≡ x / 256 → getD r 1 0 ≡ x % 256 → r ≡ secrBytes x
+      two-of [] x e p q = absurd (omega arith)
+      two-of (a ∷ []) x e p q = absurd (omega arith)
+      two-of (a ∷ b ∷ (c ∷ cs)) x e p q = absurd (omega arith)
+      two-of (a ∷ b ∷ []) x e p q = rw (p, q)
+
+  -- encoding what was decoded gives the bytes back exactly where the padding is zero and SECR right
+  pub encode-decode : (dataset (valuesIn d) ≡ d)
+      ↔ ((padding d (datasetOf (valuesIn d)) ≡ 0) × (SECR d (datasetOf (valuesIn d)) ≡ crc (sealed d (datasetOf (valuesIn d)))))
+  encode-decode = (there, back)
+    where
+      there : dataset (valuesIn d) ≡ d → (padding d (datasetOf (valuesIn d)) ≡ 0) × (SECR d (datasetOf (valuesIn d)) ≡ crc (sealed d (datasetOf (valuesIn d))))
+      there e = (
+        ap (λ (l : List ℕ). padding l (datasetOf (valuesIn d))) (sym e) ∙ padding-zero (valuesIn d) room k,
+        ap (λ (l : List ℕ). SECR l (datasetOf (valuesIn d))) (sym e) ∙ secr-right (valuesIn d) room k
+            ∙ ap (λ (l : List ℕ). crc (sealed l (datasetOf (valuesIn d)))) e,
+      )
+
+      back : (padding d (datasetOf (valuesIn d)) ≡ 0) × (SECR d (datasetOf (valuesIn d)) ≡ crc (sealed d (datasetOf (valuesIn d)))) → dataset (valuesIn d) ≡ d
+      back p =
+          made (valuesIn d) (front-is (p .0)) ∙ ap (λ (z : List ℕ). take (datasetOf (valuesIn d) - 2) d ++ z) (sym (last-is (p .1)))
+          ∙ take-append-drop (datasetOf (valuesIn d) - 2) d

@@ -1,0 +1,58 @@
+-- The frame: a field write alters its field's bits alone, a record write bits 16 to 231 of its product, a mark the one table element of its
+-- chain's last sector; so no step alters a bit outside its chain's sectors and that element, and a refused one none. Assumes nothing.
+use mathlib.Core.Path.{_≡_, refl, ap}
+use mathlib.Core.Logic.{inl, inr, ⊎-elim}
+use mathlib.Core.List.{List, [], _∷_}
+use Prim.Native.Nat.{ℕ, _+_, _-_, _*_, _≤_, _<_}
+use native.Mathlib.Omega.{arith}
+use lib.ListN.{length}
+use Rattle.bits.specs.Bits.{Bytes, bit}
+use Rattle.bits.proofs.Laws.{Outside}
+use Rattle.fields.specs.declared.Span.{Span}
+use Rattle.fields.specs.Lists.{listOf, nth}
+use Rattle.fields.specs.Fields.{stores}
+use Rattle.fields.specs.Shifted.{shifted}
+use Rattle.fields.proofs.Only.{Only, only-stores}
+use Rattle.fields.proofs.Laws.{length-stores}
+use Rattle.chains.specs.Chain.{In, lastOf}
+use Rattle.chains.specs.Psi.{Ψ}
+use Rattle.ticket.specs.Kind.{kind}
+use Rattle.image.specs.Image.{B, S, sectorAt, sectors}
+use Rattle.image.specs.Product.{elementAt, productAt}
+use Rattle.image.proofs.Stays.{chain-of}
+use Rattle.image.proofs.First.{first-in}
+use Rattle.steps.specs.Step.{Step, write, writeAll, setMark, owner}
+use Rattle.steps.specs.Steps.{answer, next}
+use Rattle.steps.proofs.Acts.{Taken, Act, idle, acts, act, only, next-is, refused-same}
+use Rattle.steps.proofs.Keeps.{Where, body, link, where-is}
+
+pub field-frame : (c : List ℕ) (j n v : ℕ) → Bytes c → Taken c (write j n v)
+    → Only c (next c (write j n v)) (8 * sectorAt c j + nth (listOf kind) (n - 1) .0) (nth (listOf kind) (n - 1) .1)
+unfolding productAt shifted
+field-frame c j n v b t =
+    rw (next-is c (write j n v) t) (only-stores c (8 * sectorAt c j + nth (listOf kind) (n - 1) .0) (nth (listOf kind) (n - 1) .1) _ (v ∷ []) b ((omega arith, omega arith), tt))
+
+pub record-frame : (c : List ℕ) (j : ℕ) (vs : List ℕ) → Bytes c → Taken c (writeAll j vs) → Only c (next c (writeAll j vs)) (8 * sectorAt c j + 16) 216
+record-frame c j vs b t = only c b (writeAll j vs) t
+
+pub mark-frame : (c : List ℕ) (j m : ℕ) → Bytes c → Taken c (setMark j m) → Only c (next c (setMark j m)) (elementAt c (lastOf (sectors c j))) (Ψ (S c))
+mark-frame c j m b t = only c b (setMark j m) t
+
+-- whatever the image and the step
+pub frame : (c : List ℕ) (s : Step) → Bytes c → (i : ℕ) → ((k : ℕ) → In k (sectors c (owner s)) → Outside (8 * sectorAt c k) (8 * B c) i)
+    → Outside (elementAt c (lastOf (sectors c (owner s)))) (Ψ (S c)) i → bit (next c s) i ≡ bit c i
+frame c s b i apart away = go (act c s)
+  where
+    go : Act c s → bit (next c s) i ≡ bit c i
+    go (idle e n) = ap (λ (l : List ℕ). bit l i) (refused-same c s n)
+    go (acts t) = only c b s t .outside i (out (where-is c s))
+      where
+        out : {p : Span} → Where c s p → Outside (p .0) (p .1) i
+        out body =
+            ⊎-elim (λ h. inl (omega arith)) (λ h. inr (omega (arith, t .obeyed .size-least))) (apart (owner s) (first-in (chain-of c (t .obeyed) (t .present) .leads)))
+        out link = away
+
+-- and no byte comes or goes
+pub length-next : (c : List ℕ) (s : Step) → length (next c s) ≡ length c
+unfolding next
+length-next c s = length-stores c _ _

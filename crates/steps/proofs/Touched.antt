@@ -1,0 +1,102 @@
+-- A step touches no entry but the one it names, and that one only where it is taken; and a taken write of another value, or a new mark, does
+-- touch it: for what was written is read. Assumes nothing.
+use mathlib.Core.Path.{_≡_, refl, sym, ap, _∙_}
+use mathlib.Core.Logic.{_≢_}
+use mathlib.Core.List.{List, [], _∷_}
+use Prim.Native.Nat.{ℕ, zero, suc, _-_, _≤_, _<_}
+use native.Mathlib.Decide.{ℕ-discrete}
+use native.Mathlib.Omega.{arith}
+use lib.ListN.{length, getD, set}
+use lib.Seq.{getD-set-same}
+use Rattle.bits.specs.Bits.{Bytes}
+use Rattle.fields.specs.Lists.{listOf}
+use Rattle.fields.specs.Fields.{fields}
+use Rattle.fields.proofs.Laws.{length-fields}
+use Rattle.ticket.specs.Kind.{kind}
+use Rattle.image.specs.Image.{e#, sectors, mark, product}
+use Rattle.image.specs.Obeys.{IsProduct}
+use Rattle.steps.specs.Step.{Step, write, writeAll, setMark, owner}
+use Rattle.steps.specs.Steps.{answer, next}
+use Rattle.steps.specs.Touched.{forty, Touched, entry, chain, marked, byte}
+use Rattle.steps.proofs.Acts.{Taken, Act, idle, acts, act, refused-same, kept-same, numbers}
+use Rattle.steps.proofs.Keeps.{entry-kept, product-kept-there, sectors-kept, mark-kept, mark-own, product-kept, size-kept}
+use Rattle.steps.proofs.Written.{record-read, field-read}
+
+-- entry j is as it was
+pub record Untouched (c d : List ℕ) (j : ℕ) : Type 0 where
+  pub many : e# d ≡ e# c
+  pub bits-kept : 1 ≤ j → j ≤ e# c → forty d j ≡ forty c j
+  pub is-kept : IsProduct c j → IsProduct d j
+  pub chain-kept : IsProduct c j → sectors d j ≡ sectors c j
+  pub mark-kept′ : IsProduct c j → mark d j ≡ mark c j
+  pub bytes-kept : IsProduct c j → product d j ≡ product c j
+
+pub not-touched : {c d : List ℕ} {j : ℕ} → Untouched c d j → Touched c d j → ⊥
+not-touched u (entry a b h) = h (u .bits-kept a b)
+not-touched u (chain v h) = h (u .chain-kept v)
+not-touched u (marked v h) = h (u .mark-kept′ v)
+not-touched u (byte k v h) = h (ap (λ (l : List ℕ). getD l k 0) (u .bytes-kept v))
+
+pub untouched-same : (c : List ℕ) (j : ℕ) → Untouched c c j
+untouched-same c j = record { many = refl; bits-kept = λ a b. refl; is-kept = λ v. v; chain-kept = λ v. refl; mark-kept′ = λ v. refl; bytes-kept = λ v. refl }
+
+pub untouched-then : {c d e : List ℕ} {j : ℕ} → Untouched c d j → Untouched d e j → Untouched c e j
+untouched-then x y = record {
+  many = y .many ∙ x .many;
+  bits-kept = λ a b. y .bits-kept a (omega (arith, x .many)) ∙ x .bits-kept a b;
+  is-kept = λ v. y .is-kept (x .is-kept v);
+  chain-kept = λ v. y .chain-kept (x .is-kept v) ∙ x .chain-kept v;
+  mark-kept′ = λ v. y .mark-kept′ (x .is-kept v) ∙ x .mark-kept′ v;
+  bytes-kept = λ v. y .bytes-kept (x .is-kept v) ∙ x .bytes-kept v;
+}
+
+-- whatever the image: unless the step is taken and names it
+pub untouched : (c : List ℕ) (s : Step) (j : ℕ) → Bytes c → (answer c s .number ≡ 0 → owner s ≢ j) → Untouched c (next c s) j
+untouched c s j b d = go (act c s)
+  where
+    go : Act c s → Untouched c (next c s) j
+    go (idle p n) = rw (refused-same c s n) (untouched-same c j)
+    go (acts t) =
+        let other = d (t .answered-zero) in
+        record {
+          many = kept-same c b s t .e#-same;
+          bits-kept = λ l h. entry-kept c b s t j l h;
+          is-kept = λ v. product-kept-there c b s t v;
+          chain-kept = λ v. sectors-kept c b s t j v;
+          mark-kept′ = λ v. mark-kept c b s t j v other;
+          bytes-kept = λ v. product-kept c b s t j v other;
+        }
+
+-- ---- what does touch
+
+-- lists of one length that are not equal differ somewhere
+differ : (l m : List ℕ) → length l ≡ length m → (l ≡ m → ⊥) → (k : ℕ) × (getD l k 0 ≢ getD m k 0)
+differ [] [] e d = absurd (d refl)
+differ [] (y ∷ m) e d = absurd (omega arith)
+differ (x ∷ l) [] e d = absurd (omega arith)
+differ (x ∷ l) (y ∷ m) e d = elim (ℕ-discrete x y) [
+  | no h ↦ (zero, h)
+  | yes h ↦ let r = differ l m (omega arith) (λ q. d (rw (h, q))) in (suc (r .0), r .1)
+]
+
+module _ (c : List ℕ) (b : Bytes c) where
+  bytes-touched : (s : Step) → Taken c s → (product (next c s) (owner s) ≡ product c (owner s) → ⊥) → Touched c (next c s) (owner s)
+  bytes-touched s t d =
+      let r = differ (product (next c s) (owner s)) (product c (owner s)) (size-kept c b s t (owner s) (t .present)) d in
+      byte (r .0) (t .present) (r .1)
+
+  pub write-touches : (j n v : ℕ) → Taken c (write j n v) → getD (fields (product c j) (listOf kind)) (n - 1) 0 ≢ v → Touched c (next c (write j n v)) j
+  write-touches j n v t d =
+      let h = numbers c j n v t in
+      let l = length-fields (product c j) (listOf kind) in
+      bytes-touched (write j n v) t (λ e. d (
+      ap (λ (p : List ℕ). getD (fields p (listOf kind)) (n - 1) 0) (sym e)
+      ∙ ap (λ (vs : List ℕ). getD vs (n - 1) 0) (field-read c b j n v t)
+      ∙ getD-set-same (fields (product c j) (listOf kind)) (n - 1) v 0 (omega arith)))
+
+  pub record-touches : (j : ℕ) (vs : List ℕ) → Taken c (writeAll j vs) → (fields (product c j) (listOf kind) ≡ vs → ⊥) → Touched c (next c (writeAll j vs)) j
+  record-touches j vs t d =
+      bytes-touched (writeAll j vs) t (λ e. d (ap (λ (p : List ℕ). fields p (listOf kind)) (sym e) ∙ record-read c b j vs t))
+
+  pub mark-touches : (j m : ℕ) → Taken c (setMark j m) → mark c j ≢ m → Touched c (next c (setMark j m)) j
+  mark-touches j m t d = marked (t .present) (λ e. d (sym e ∙ mark-own c b (setMark j m) t))

@@ -1,0 +1,196 @@
+-- What was written is read: a taken write stores the ticket's list, or one place of it, into the product itself, and the laws of lists say
+-- what its fields are then. A step taken twice is the step taken once. Assumes nothing.
+use mathlib.Core.Path.{_≡_, refl, sym, ap, ap₂, _∙_}
+use mathlib.Core.Logic.{_≢_, inl, inr, ⊎-elim}
+use mathlib.Core.List.{List, [], _∷_, _++_}
+use Prim.Native.Nat.{ℕ, zero, suc, _+_, _-_, _*_, _^_, _≤_, _<_}
+use native.Mathlib.Nat.{mul-le-mul-right}
+use native.Mathlib.Decide.{ℕ-discrete}
+use native.Mathlib.Omega.{arith}
+use lib.ListN.{length, getD, set, take, drop, length-set}
+use lib.Seq.{getD-set-same, getD-set-other}
+use Rattle.bits.specs.Bits.{Bytes, field, store}
+use Rattle.bits.proofs.Laws.{store-store, store-field, bytes-take, bytes-drop}
+use Rattle.fields.specs.declared.Span.{Span}
+use Rattle.fields.specs.Lists.{listOf, nth}
+use Rattle.fields.specs.Fields.{fields, stores, limitOf, limits}
+use Rattle.fields.specs.Shifted.{shifted}
+use Rattle.fields.proofs.Joined.{lists-joined}
+use Rattle.fields.proofs.Laws.{Fit, fit-of, AllLow, getD-limits, length-limits, fields-stores, fields-store, length-fields, length-stores}
+use Rattle.fields.proofs.Only.{Inside, joined-inside}
+use Rattle.fields.proofs.Parts.{part, around, around-part, stores-part, part-stores, stores-left, stores-again}
+use Rattle.chains.specs.Chain.{Sector, Ends, fresh, used, blocked, In, Distinct, lastOf}
+use Rattle.chains.proofs.Laws.{chain-sectors}
+use Rattle.ticket.specs.Kind.{kind, mostOf, limit}
+use Rattle.image.specs.Image.{B, S, sectorAt, element, sectors, mark, sector, joined, product}
+use Rattle.image.specs.Obeys.{IsProduct, Obeys}
+use Rattle.image.specs.Product.{Seen, elementAt, productAt, seen}
+use Rattle.image.proofs.Exact.{product-sector}
+use Rattle.image.proofs.Same.{before-directory}
+use Rattle.image.proofs.Stays.{chain-of}
+use Rattle.image.proofs.First.{sectors-head, length-sector, bytes-joined, product-size}
+use Rattle.steps.specs.Step.{Step, write, writeAll, setMark, owner}
+use Rattle.steps.specs.Steps.{stepRules, answerOf, answer, target, values, placesOf, valuesOf, next}
+use Rattle.steps.proofs.Acts.{Taken, Act, idle, acts, act, next-is, refused-same, kept-taken, numbers, place-inside, ticket-inside, kept-mark, own-sector, in-bounds, kept-same, old-end, newMark}
+use Rattle.steps.proofs.Keeps.{stays, sectors-kept, joined-kept, mark-own, mark-kept, seen-marked, bytes-next}
+
+-- ---- limits
+
+-- a ticket's limit is no wider than its field
+limit-low : (i : ℕ) → i < 22 → getD (mostOf kind) i 0 ≤ limitOf (nth (listOf kind) i)
+unfolding mostOf
+limit-low i h = elim (ℕ-discrete i 8) [
+  | yes e ↦ rw e (omega (arith, getD-set-same (limits (listOf kind)) 8 1439 0 (omega (arith, length-limits (listOf kind)))))
+  | no d ↦ omega (arith, getD-set-other (limits (listOf kind)) 8 i 1439 0 d, getD-limits (listOf kind) i h)
+]
+
+sub-one : (i : ℕ) → i + 1 - 1 ≡ i
+sub-one i = omega arith
+
+pub record-fits : (c : List ℕ) (j : ℕ) (vs : List ℕ) → Taken c (writeAll j vs) → Fit (listOf kind) vs
+unfolding stepRules
+record-fits c j vs t =
+    let r = t .kept .1 .1 .1 .1 .1 .0 in
+    record { many = r .0; low = λ i h. omega (arith, limit-low i h, rw sub-one at (r .1 i h)) }
+
+value-fits : (c : List ℕ) (j n v : ℕ) → Taken c (write j n v) → v ≤ limitOf (nth (listOf kind) (n - 1))
+unfolding stepRules
+value-fits c j n v t = let r = t .kept .1 .1 .1 .1 .1 in omega (arith, limit-low (n - 1) (omega (arith, r .0)), r .1 .0)
+
+-- ---- a write stores into the product
+
+in-first : {c : List ℕ} → Obeys c → (ps : List Span) → Inside 16 216 ps → Inside 0 (8 * B c) ps
+in-first o [] h = tt
+in-first o (p ∷ ps) h = ((omega arith, omega (arith, h .0, o .size-least)), in-first o ps (h .1))
+
+module _ (c : List ℕ) (b : Bytes c) (s : Step) (t : Taken c s) (ps : List Span) (vs : List ℕ) (fits : Inside 16 216 ps)
+    (is : next c s ≡ stores c (shifted (8 * sectorAt c (owner s)) ps) vs) where
+  sector-in : sectorAt c (owner s) + B c ≤ length c
+  sector-in = let g = in-bounds c b s t in omega (arith, before-directory c g (owner s) (own-sector c b s t))
+
+  pub sector-written : sector (next c s) (owner s) ≡ stores (sector c (owner s)) ps vs
+  unfolding sector
+  sector-written =
+      rw (kept-same c b s t .B-same, kept-same c b s t .sector-same (owner s), is)
+      (part-stores c (sectorAt c (owner s)) (B c) ps vs b sector-in (in-first (t .obeyed) ps fits))
+
+  joined-written : (rest : List ℕ) → Distinct (owner s ∷ rest) → ((x : ℕ) → In x (owner s ∷ rest) → Sector (S c) x)
+      → joined (next c s) (owner s ∷ rest) ≡ stores (joined c (owner s ∷ rest)) ps vs
+  unfolding joined
+  joined-written rest d m =
+      ap₂ (λ (x y : List ℕ). x ++ y) sector-written (joined-kept c b s t rest (λ i h. (m i (inr h), λ e. d .0 (rw e h))))
+      ∙ stores-left (sector c (owner s)) (joined c rest) ps vs (bytes-joined c b rest)
+      (rw (length-sector c (t .obeyed) (owner s) (own-sector c b s t)) (in-first (t .obeyed) ps fits))
+
+  pub product-written : product (next c s) (owner s) ≡ stores (product c (owner s)) ps vs
+  unfolding product
+  product-written =
+      let h = chain-of c (t .obeyed) (t .present) in
+      rw (sectors-kept c b s t (owner s) (t .present))
+      (go (sectors c (owner s)) (sectors-head (h .leads)) (h .once) (chain-sectors (element c) (S c) (own-sector c b s t) h))
+    where
+      go : (ss : List ℕ) → (rest : List ℕ) × (ss ≡ owner s ∷ rest) → Distinct ss → ((x : ℕ) → In x ss → Sector (S c) x)
+          → joined (next c s) ss ≡ stores (joined c ss) ps vs
+      go ss (rest, e) d m = rw e (joined-written rest (rw e at d) (rw e at m))
+
+  -- the same store once more
+  pub written-again : stores (stores (sector c (owner s)) ps vs) ps vs ≡ stores (sector c (owner s)) ps vs
+      → stores (next c s) (shifted (8 * sectorAt c (owner s)) ps) vs ≡ next c s
+  unfolding sector
+  written-again h =
+      let a = sectorAt c (owner s) in
+      let n = B c in
+      let q : part (next c s) a n ≡ stores (part c a n) ps vs = rw is (part-stores c a n ps vs b sector-in (in-first (t .obeyed) ps fits)) in
+      let l : length (next c s) ≡ length c = rw is (length-stores c (shifted (8 * a) ps) vs) in
+      sym (stores-part (next c s) a n ps vs (bytes-next c s b) (omega (arith, sector-in)) (in-first (t .obeyed) ps fits))
+      ∙ ap (λ (z : List ℕ). around (next c s) a n z) (ap (λ (z : List ℕ). stores z ps vs) q ∙ h ∙ sym q)
+      ∙ around-part (next c s) a n
+
+-- ---- read after write
+
+module _ (c : List ℕ) (b : Bytes c) where
+  product-long : (s : Step) → Taken c s → 232 ≤ 8 * length (product c (owner s))
+  product-long s t =
+      let o = t .obeyed in
+      let r = sectors-head (chain-of c o (t .present) .leads) in
+      let n : 1 ≤ length (sectors c (owner s)) = rw (r .1) (omega arith) in
+      omega (arith, product-size c o (t .present), o .size-least, mul-le-mul-right {m = 1} (B c) n)
+
+  -- after a taken record write the fields of the product are the values written
+  pub record-read : (j : ℕ) (vs : List ℕ) → Taken c (writeAll j vs) → fields (product (next c (writeAll j vs)) j) (listOf kind) ≡ vs
+  unfolding productAt
+  record-read j vs t =
+      rw (product-written c b (writeAll j vs) t (listOf kind) vs ticket-inside (next-is c (writeAll j vs) t))
+      (fields-stores 16 (listOf kind) 232 (lists-joined kind) (product c j) vs (product-long (writeAll j vs) t) (record-fits c j vs t))
+
+  -- after a taken field write the field is the value, and every other field is as before
+  pub field-read : (j n v : ℕ) → Taken c (write j n v)
+      → fields (product (next c (write j n v)) j) (listOf kind) ≡ set (fields (product c j) (listOf kind)) (n - 1) v
+  unfolding productAt stores
+  field-read j n v t =
+      let h = numbers c j n v t in
+      let k = place-inside n h in
+      rw (product-written c b (write j n v) t (nth (listOf kind) (n - 1) ∷ []) (v ∷ []) ((omega (arith, k), omega (arith, k)), tt) (next-is c (write j n v) t))
+      (fields-store 16 (listOf kind) 232 (lists-joined kind) (product c j) v (n - 1) (omega (arith, h)) (product-long (write j n v) t) (value-fits c j n v t))
+
+-- ---- twice is once
+
+next-by : (c : List ℕ) (s : Step) → next c s ≡ stores c (placesOf (seen c (owner s)) s) (valuesOf (seen c (owner s)) s)
+unfolding next
+next-by c s = refl
+
+bytes-sector : (c : List ℕ) → Bytes c → (i : ℕ) → Bytes (sector c i)
+unfolding sector
+bytes-sector c b i = bytes-take (B c) (drop (sectorAt c i) c) (bytes-drop (sectorAt c i) c b)
+
+-- a write keeps all that a step looks at
+pub seen-write : (c : List ℕ) → Bytes c → (s : Step) → Taken c s → newMark c s ≡ mark c (owner s) → (j : ℕ) → seen (next c s) j ≡ seen c j
+seen-write c b s t w j =
+    seen-marked c b s t j (λ v. elim (ℕ-discrete (owner s) j) [ yes e ↦ rw (← e) (mark-own c b s t ∙ w) | no e ↦ mark-kept c b s t j v e ])
+
+ends-is : {s l x m : ℕ} → Ends s l x m → 1 ≤ m → x ≡ s - m
+ends-is (fresh e) h = absurd (omega arith)
+ends-is (used e) h = e
+ends-is (blocked e) h = e
+
+mark-taken : (c : List ℕ) (j m : ℕ) → Bytes c → mark c j ≡ m → Taken c (setMark j m) → next c (setMark j m) ≡ c
+unfolding productAt stores element elementAt
+mark-taken c j m b e t =
+    let x = ends-is (old-end c b (setMark j m) t) (omega (arith, kept-mark c j m t .0)) in
+    rw (next-is c (setMark j m) t, ← e, ← x) (store-field c _ _ b)
+
+-- a mark already set is accepted
+pub mark-accepted : (c : List ℕ) (j m : ℕ) → Obeys c → IsProduct c j → (1 ≤ m) × (m ≤ 2) → mark c j ≡ m → answer c (setMark j m) .number ≡ 0
+unfolding stepRules productAt
+mark-accepted c j m o v k e = kept-taken c (setMark j m) o v (k, (omega arith, tt)) .answered-zero
+
+-- and changes nothing
+pub mark-again : (c : List ℕ) (j m : ℕ) → Bytes c → mark c j ≡ m → next c (setMark j m) ≡ c
+mark-again c j m b e = go (act c (setMark j m))
+  where
+    go : Act c (setMark j m) → next c (setMark j m) ≡ c
+    go (idle p n) = refused-same c (setMark j m) n
+    go (acts t) = mark-taken c j m b e t
+
+-- a step that sees the same stores the same
+next-again : (c : List ℕ) (s : Step) → Taken c s → seen (next c s) (owner s) ≡ seen c (owner s)
+    → next (next c s) s ≡ stores (next c s) (target (productAt c (owner s)) s) (values (productAt c (owner s)) s)
+next-again c s t e =
+    next-by (next c s) s
+    ∙ ap₂ (λ (ps : List Span) (vs : List ℕ). stores (next c s) ps vs) (ap (λ (z : Seen). placesOf z s) e ∙ t .places) (ap (λ (z : Seen). valuesOf z s) e ∙ t .stored)
+
+-- a step taken twice is the step taken once
+pub again : (c : List ℕ) (s : Step) → Bytes c → Taken c s → next (next c s) s ≡ next c s
+unfolding productAt stores
+again c (write j n v) b t =
+    let k = place-inside n (numbers c j n v t) in
+    let p = nth (listOf kind) (n - 1) in
+    next-again c (write j n v) t (seen-write c b (write j n v) t refl j)
+    ∙ written-again c b (write j n v) t (p ∷ []) (v ∷ []) ((omega (arith, k), omega (arith, k)), tt) (next-is c (write j n v) t)
+    (store-store (sector c j) (p .0) (p .1) v v)
+again c (writeAll j vs) b t =
+    next-again c (writeAll j vs) t (seen-write c b (writeAll j vs) t refl j)
+    ∙ written-again c b (writeAll j vs) t (listOf kind) vs ticket-inside (next-is c (writeAll j vs) t)
+    (stores-again 16 (listOf kind) 232 (lists-joined kind) (sector c j) vs (bytes-sector c b j)
+    (omega (arith, length-sector c (t .obeyed) j (own-sector c b (writeAll j vs) t), t .obeyed .size-least)) (record-fits c j vs t))
+again c (setMark j m) b t = mark-again (next c (setMark j m)) j m (bytes-next c (setMark j m) b) (mark-own c b (setMark j m) t)

@@ -1,0 +1,81 @@
+-- What a step answers, and the image after it (document 01, "Steps on a product" and "Numbers given back"). Assumes nothing.
+use Prim.Native.Nat.{ℕ, zero, suc, _+_, _-_}
+use mathlib.Core.List.{List, [], _∷_, _++_}
+use lib.ListN.{length, getD}
+use Rattle.fields.specs.declared.Span.{Span}
+use Rattle.fields.specs.Lists.{span, listOf, nth}
+use Rattle.fields.specs.Fields.{stores}
+use Rattle.fields.specs.Shifted.{shifted}
+use Rattle.rules.specs.Claim.{_≡?_, _≤?_, _and_, every, Rule, rule, first}
+use Rattle.ticket.specs.Kind.{kind, countOf, limit, kindRules}
+use Rattle.image.specs.Rules.{Verdict}
+use Rattle.image.specs.Product.{Product, Seen, refused, missing, there, seen}
+use Rattle.steps.specs.Step.{Step, write, writeAll, setMark, owner}
+
+-- ---- the answer
+
+-- "a field write 20, 27, 22, 23, 25, 26; a record write 20, 27, 22, 23, 26": 27, 22 and 23 of the product p, then the rules rs
+abbrev pub writeRules : Product → List Rule → List Rule
+writeRules p rs = rule 27 (p .marked ≤? 1) ∷ (kindRules (p .typ) (p .revision) (p .blocks) (p .size) ++ rs)
+
+-- 25: the number of a field
+abbrev pub fieldRule : ℕ → Rule
+fieldRule n = rule 25 (1 ≤? n and n ≤? countOf kind)
+
+-- 26: a value for each field, none above its limit
+abbrev pub recordRule : List ℕ → Rule
+recordRule vs = rule 26 (length vs ≡? countOf kind and every (countOf kind) λ i. getD vs i 0 ≤? limit kind (i + 1))
+
+-- after the image's own numbers and 20; "a mark 20, 28, 27", where 27 meets mark 1 on a blocked chain alone
+unfoldable pub stepRules : Product → Step → List Rule
+stepRules p (write j n v) = writeRules p (fieldRule n ∷ rule 26 (v ≤? limit kind n) ∷ [])
+stepRules p (writeAll j vs) = writeRules p (recordRule vs ∷ [])
+stepRules p (setMark j m) = rule 28 (1 ≤? m and m ≤? 2) ∷ rule 27 (p .marked ≤? m) ∷ []
+
+abbrev pub says : ℕ → ℕ → Verdict
+says n e = record { number = n; entry = e }
+
+-- success is 0 and entry 0; "20 to 28 name the entry asked for"
+abbrev pub named : ℕ → ℕ → Verdict
+named zero j = says 0 0
+named (suc n) j = says (suc n) j
+
+abbrev pub answerOf : Seen → Step → Verdict
+answerOf (refused n e) s = says n e
+answerOf missing s = says 20 (owner s)
+answerOf (there p) s = named (first (stepRules p s)) (owner s)
+
+unfoldable pub answer : List ℕ → Step → Verdict
+answer c s = answerOf (seen c (owner s)) s
+
+-- ---- the image after it
+
+-- where a step stores: the field of the product, all its fields, or the one table element of its last sector
+abbrev pub target : Product → Step → List Span
+target p (write j n v) = shifted (p .start) (nth (listOf kind) (n - 1) ∷ [])
+target p (writeAll j vs) = shifted (p .start) (listOf kind)
+target p (setMark j m) = span (p .element) (p .width) ∷ []
+
+-- and what: S-1 ends a chain in use, S-2 a blocked one
+abbrev pub values : Product → Step → List ℕ
+values p (write j n v) = v ∷ []
+values p (writeAll j vs) = vs
+values p (setMark j m) = (p .top - m) ∷ []
+
+abbrev pub unlessRefused : ℕ → List Span → List Span
+unlessRefused zero ps = ps
+unlessRefused (suc n) ps = []
+
+-- a refused step stores at no place
+abbrev pub placesOf : Seen → Step → List Span
+placesOf (refused n e) s = []
+placesOf missing s = []
+placesOf (there p) s = unlessRefused (first (stepRules p s)) (target p s)
+
+abbrev pub valuesOf : Seen → Step → List ℕ
+valuesOf (refused n e) s = []
+valuesOf missing s = []
+valuesOf (there p) s = values p s
+
+unfoldable pub next : List ℕ → Step → List ℕ
+next c s = stores c (placesOf (seen c (owner s)) s) (valuesOf (seen c (owner s)) s)
