@@ -1,8 +1,11 @@
 // A line of text is answered from an image: the commands of the desk, and those that only a test program knows.
+mod decodes;
+mod encodes;
 mod feed;
 mod files;
 mod hex;
 mod line;
+mod listing;
 mod looks;
 mod trial;
 mod values;
@@ -10,6 +13,7 @@ mod words;
 
 pub use feed::run;
 pub use files::load;
+pub use listing::listing;
 use words::Said;
 
 // How long the image and the kept image are, and where the next answer goes.
@@ -43,6 +47,10 @@ fn common(
     let n = words::least(size, image.len());
     let looked = looks::answer(line, count, &list, &image[0..n], out, at);
     if let Said::Upto(next) = looked {
+        return Said::Upto(next);
+    }
+    let encoded = encodes::answer(line, count, &list, out, at);
+    if let Said::Upto(next) = encoded {
         return Said::Upto(next);
     }
     values::answer(line, count, &list, out, at)

@@ -1,4 +1,5 @@
 // The parts of an answer, written one after the other; each gives the place after it.
+use crate::words;
 
 // A blank and a number.
 pub(crate) fn also(out: &mut [u8], at: usize, n: u64) -> usize {
@@ -36,6 +37,12 @@ pub(crate) fn sectors(out: &mut [u8], at: usize, list: &[u8]) -> usize {
         i += 1;
     }
     next
+}
+
+// The first `count` of small values.
+pub(crate) fn first(out: &mut [u8], at: usize, list: &[u8], count: usize) -> usize {
+    let n = words::least(count, list.len());
+    sectors(out, at, &list[0..n])
 }
 
 // Bytes in hexadecimal, `-` where there are none.
@@ -92,6 +99,20 @@ pub(crate) fn encoded(
     let next = verdict(out, at, number, entry);
     let blank = text::put(out, next, b" ");
     let last = bytes(out, blank, list);
+    end(out, last)
+}
+
+// A whole answer: the number, the entry and the first `count` of small values.
+pub(crate) fn counted(
+    out: &mut [u8],
+    at: usize,
+    number: usize,
+    entry: usize,
+    list: &[u8],
+    count: usize,
+) -> usize {
+    let next = verdict(out, at, number, entry);
+    let last = first(out, next, list, count);
     end(out, last)
 }
 

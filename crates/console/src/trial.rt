@@ -1,5 +1,6 @@
 // Commands that only a test program knows: an image made by parts, and calls on bytes.
 use crate::State;
+use crate::decodes;
 use crate::hex;
 use crate::line;
 use crate::values;
@@ -31,7 +32,7 @@ pub(crate) fn answer(
     if words::asks(line, b"value", count, 23) {
         return state.answered(values::value(&list, out, state.answer));
     }
-    state.answered(on_bytes(line, out, state.answer))
+    state.answered(decodes::answer(line, out, state.answer))
 }
 
 // Fills a buffer with a byte.
@@ -95,44 +96,4 @@ fn place(line: &[u8], image: &mut [u8], out: &mut [u8], at: usize) -> usize {
     let to = from + n;
     hex::read(&line[word..], &mut image[from..to]);
     line::done(out, at)
-}
-
-// Commands on bytes alone.
-fn on_bytes(line: &[u8], out: &mut [u8], at: usize) -> usize {
-    let start = words::after(line, words::first(line));
-    if words::begins(line, b"crc") {
-        return crc(&line[start..], out, at);
-    }
-    if words::begins(line, b"decode-ticket") {
-        return decode_ticket(&line[start..], out, at);
-    }
-    line::unknown(out, at)
-}
-
-fn crc(word: &[u8], out: &mut [u8], at: usize) -> usize {
-    let n = hex::count(word);
-    let mut bytes = [0u8; 70000];
-    if 70000 < n {
-        return line::unknown(out, at);
-    }
-    hex::read(word, &mut bytes);
-    let next = text::put_number(out, at, crc_of(&bytes, n));
-    line::end(out, next)
-}
-
-// The CRC of the first `n` bytes.
-fn crc_of(bytes: &[u8], n: usize) -> u64 {
-    let end = words::least(n, bytes.len());
-    crc::crc(&bytes[0..end]) as u64
-}
-
-fn decode_ticket(word: &[u8], out: &mut [u8], at: usize) -> usize {
-    let mut bytes = [0u8; 27];
-    if hex::count(word) != 27 {
-        return line::unknown(out, at);
-    }
-    hex::read(word, &mut bytes);
-    let r = ticket::decode(bytes);
-    let v = r.values;
-    line::valued(out, at, 0, 0, &v)
 }

@@ -23,9 +23,6 @@ pub(crate) fn answer(
     if words::asks(line, b"set", count, 24) {
         return Said::Upto(set(list, out, at));
     }
-    if words::asks(line, b"encode-ticket", count, 22) {
-        return Said::Upto(encode_ticket(list, out, at));
-    }
     Said::Nothing
 }
 
@@ -52,7 +49,7 @@ pub(crate) fn stamp(year: u64, month: u64, day: u64, out: &mut [u8], at: usize) 
 }
 
 // The record of the twenty-two numbers from `from` on.
-fn record(list: &[u64; 302], from: usize) -> Record
+pub(crate) fn record(list: &[u64; 302], from: usize) -> Record
     requires { ⌜ from ≤ 280 ⌝ }
 {
     let mut v = [0u64; 22];
@@ -74,10 +71,4 @@ pub(crate) fn set(list: &[u64; 302], out: &mut [u8], at: usize) -> usize {
 pub(crate) fn value(list: &[u64; 302], out: &mut [u8], at: usize) -> usize {
     let r = record(list, 1).value(list[0] as usize);
     line::valued(out, at, r.number, r.entry, &[r.value])
-}
-
-pub(crate) fn encode_ticket(list: &[u64; 302], out: &mut [u8], at: usize) -> usize {
-    let r = ticket::encode(record(list, 0));
-    let b = r.bytes;
-    line::encoded(out, at, r.number, r.entry, &b)
 }
