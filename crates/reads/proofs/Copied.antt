@@ -7,7 +7,7 @@ use native.Mathlib.Numerals.{add-one}
 use native.Mathlib.Nat.{add-suc, add-zero}
 use native.Mathlib.Omega.{arith}
 use lib.ListN.{length, getD, take, drop, set, length-append, length-drop}
-use lib.Seq.{length-take-le, drop-cons, take-suc, set-at, take-length}
+use lib.Seq.{length-take-le, drop-cons, take-suc, set-at, take-length, drop-length}
 use Rattle.reads.specs.Asked.{over}
 use Rattle.reads.specs.Card.{counted}
 
@@ -39,3 +39,15 @@ unfolding counted
 getD-counted f i zero k h = absurd (omega arith)
 getD-counted f i (suc n) zero h = rw (add-zero i)
 getD-counted f i (suc n) (suc k) h = getD-counted f (suc i) n k (omega arith) ∙ ap f (omega arith)
+
+-- a list as long as the other takes its place
+pub copy-whole : (l b : List ℕ) (i : ℕ) → i ≡ length l → length l ≡ length b → copied l b i ≡ l
+copy-whole l b i e h = rw (e, take-length l, h, drop-length b) (append-nil l)
+  where
+    append-nil : (l : List ℕ) → l ++ [] ≡ l
+    append-nil [] = refl
+    append-nil (x ∷ xs) = ap {B = List ℕ} (λ l. x ∷ l) (append-nil xs)
+
+-- two lists with the same first element and the same others
+pub cons-is : {x y : ℕ} {l m : List ℕ} → x ≡ y → l ≡ m → x ∷ l ≡ y ∷ m
+cons-is p q = cc

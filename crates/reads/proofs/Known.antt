@@ -7,14 +7,14 @@ use native.Mathlib.Omega.{arith}
 use borrow.Author.Tests.{le-leb, lt-leb}
 use lib.ListN.{length, getD}
 use Rattle.rules.specs.Claim.{Rule, first}
-use Rattle.chains.specs.Chain.{Sector, Chain, Walk, found, broken, walk}
+use Rattle.chains.specs.Chain.{Sector, Chain, Walk, found, broken}
 use Rattle.chains.specs.Packed.{told}
 use Rattle.chains.specs.declared.Walked.the-variants as W
-use Rattle.chains.proofs.Laws.{found-chain, broken-none, chain-short}
+use Rattle.chains.proofs.Laws.{chain-short}
 use Rattle.chains.proofs.Order.{chain-first, chain-next, chain-sector}
 use Rattle.image.specs.Image.{S, e#, isProduct, element, chain, sectorsOf, markOf, sectors, mark}
 use Rattle.image.specs.Rules.{Verdict, verdict}
-use Rattle.image.specs.Obeys.{Obeys, IsProduct}
+use Rattle.image.specs.Obeys.{IsProduct}
 use Rattle.image.specs.Product.{productAt, seenBy, seen}
 use Rattle.image.specs.Shape.{shapeOf, Shaped}
 use Rattle.image.specs.Answer.{answer, checkOf}
@@ -23,23 +23,12 @@ use Rattle.image.specs.declared.Checked.{Checked}
 use Rattle.image.specs.declared.Checked.the-variants.{Accepted, Refused}
 use Rattle.image.proofs.Accepted.{Open, accepted-open, Shut, refused-shut}
 use Rattle.image.proofs.Exact.{test-product, product-sector}
+use Rattle.image.proofs.Stays.{chain-of}
 use Rattle.reads.specs.Asked.{judgedBy, asked}
 use Rattle.reads.specs.Entry.{There, refusal, foundIn}
 use Rattle.reads.specs.Checks.{soughtIn}
 use Rattle.reads.specs.declared.Sought.the-variants.{Here, Missing}
 use Rattle.reads.proofs.Asked.{asked-shut, asked-missing, asked-there}
-
--- the chain of a product of an accepted image is whole
-pub chain-whole : (c : List ℕ) → Obeys c → {j : ℕ} → IsProduct c j → Chain (element c) (S c) j (sectors c j) (mark c j)
-unfolding sectors mark chain
-chain-whole c o {j} v = go (walk (element c) (S c) j (S c - 3)) refl
-  where
-    s : Sector (S c) j
-    s = product-sector c (o .entries .1) v
-
-    go : (w : Walk) → walk (element c) (S c) j (S c - 3) ≡ w → Chain (element c) (S c) j (sectorsOf w) (markOf w)
-    go (found ss m) q = found-chain (element c) (S c) s .0 q
-    go broken q = let d = o .chained j v in absurd (broken-none (element c) (S c) s .0 q (d .0) (d .1) (d .2))
 
 -- an image accepted with the shape g, and a product of it
 pub record Known (c : List ℕ) (g : Shape) (j : ℕ) : Type 0 where
@@ -50,9 +39,9 @@ pub record Known (c : List ℕ) (g : Shape) (j : ℕ) : Type 0 where
 pub known-of : {c : List ℕ} {g : Shape} {j : ℕ} → Open c g → isProduct c j ≡ true → Known c g j
 known-of {c} {g} {j} o t =
     let v = test-product c j t in
-    record { opened = o; is-there = t; there = record { product = v; chain = chain-whole c (o .obeys) v } }
+    record { opened = o; is-there = t; there = record { obeys = o .obeys; product = v } }
 
-known-at : (c : List ℕ) (j : ℕ) → verdict c .number ≡ 0 → isProduct c j ≡ true → Known c (shapeOf c) j
+pub known-at : (c : List ℕ) (j : ℕ) → verdict c .number ≡ 0 → isProduct c j ≡ true → Known c (shapeOf c) j
 unfolding checkOf
 known-at c j z t = known-of (accepted-open c (shapeOf c) (rw z)) t
 
@@ -152,18 +141,21 @@ sought-missing false q = refl
 
 -- ---- the sectors of a product, by their number in its chain
 
-module _ {c : List ℕ} {g : Shape} (s : Shaped c g) {j : ℕ} (t : There c j) where
+module _ {c : List ℕ} {j : ℕ} (t : There c j) where
   pub there-sector : Sector (S c) j
-  there-sector = let b = s .in-bounds in product-sector c (omega arith) (t .product)
+  there-sector = product-sector c (t .obeys .entries .1) (t .product)
+
+  pub there-chain : Chain (element c) (S c) j (sectors c j) (mark c j)
+  there-chain = chain-of c (t .obeys) (t .product)
 
   pub there-start : getD (sectors c j) 0 0 ≡ j
-  there-start = chain-first (element c) (S c) (t .chain)
+  there-start = chain-first (element c) (S c) there-chain
 
   pub there-at : (k : ℕ) → k < length (sectors c j) → Sector (S c) (getD (sectors c j) k 0)
-  there-at = chain-sector (element c) (S c) (t .chain) there-sector
+  there-at = chain-sector (element c) (S c) there-chain there-sector
 
   pub there-next : (k : ℕ) → k + 1 < length (sectors c j) → element c (getD (sectors c j) k 0) ≡ getD (sectors c j) (k + 1) 0
-  there-next k h = sym (chain-next (element c) (S c) (t .chain) k h)
+  there-next k h = sym (chain-next (element c) (S c) there-chain k h)
 
   pub there-few : length (sectors c j) ≤ S c - 3
-  there-few = chain-short (element c) (S c) there-sector (t .chain)
+  there-few = chain-short (element c) (S c) there-sector there-chain

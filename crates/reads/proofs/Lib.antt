@@ -3,3 +3,7 @@ pub mod Copied
 pub mod Asked
 pub mod Known
 pub mod Places
+pub mod Sectors
+pub mod InOrder
+pub mod Passed
+pub mod TwoCalls

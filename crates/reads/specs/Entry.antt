@@ -4,10 +4,9 @@ use mathlib.Core.List.{List, []}
 use lib.ListN.{length, drop, replicate}
 use Rattle.fields.specs.Fields.{fields}
 use Rattle.fields.specs.Lists as lists
-use Rattle.chains.specs.Chain.{Chain}
-use Rattle.image.specs.Image.{S, entryAt, element, sectors, mark}
+use Rattle.image.specs.Image.{entryAt, sectors, mark}
 use Rattle.image.specs.Rules.{Verdict}
-use Rattle.image.specs.Obeys.{IsProduct}
+use Rattle.image.specs.Obeys.{Obeys, IsProduct}
 use Rattle.image.specs.Shape.{shapeOf}
 use Rattle.image.specs.Answer.{answer}
 use Rattle.image.specs.declared.Checked.{Checked}
@@ -28,10 +27,10 @@ entryValues c j = fields (drop (entryAt c j) c) lists.entry
 unfoldable pub foundIn : List ℕ → ℕ → Checked
 foundIn c j = answer (refusal c j .number) (refusal c j .entry) (shapeOf c)
 
--- entry j is a product, and its chain is whole
+-- entry j is a product of an acceptable image
 pub record There (c : List ℕ) (j : ℕ) : Type 0 where
+  pub obeys : Obeys c
   pub product : IsProduct c j
-  pub chain : Chain (element c) (S c) j (sectors c j) (mark c j)
 
 -- the length of entry j's chain, and its mark
 unfoldable pub chainedIn : List ℕ → ℕ → Chained

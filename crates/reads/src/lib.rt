@@ -17,6 +17,7 @@ ghost use Rattle.fields.specs.Fields.{fields, valueAt};
 ghost use Rattle.fields.specs.Lists as lists;
 ghost use Rattle.chains.specs.Chain.{Sector};
 ghost use Rattle.dates.specs.Stamps.{dayOf};
+ghost use Rattle.ticket.specs.Kind.{kind};
 ghost use Rattle.image.specs.Image.{S, entryAt, element, sectors, isProduct, product};
 ghost use Rattle.image.specs.Answer.{checkOf};
 ghost use Rattle.image.specs.Shape.{Shaped, tableOf};
@@ -538,4 +539,115 @@ fn copy_product(image: &[u8], g: Shape, j: usize, count: usize, buffer: &mut [u8
         i = element_of(image, g, i);
         k += 1;
     }
+}
+
+// The header's three values, from the front of a product.
+fn header_values(s: &[u8]) -> [u64; 3]
+    requires { ⌜ 2 ≤ length (now s) ⌝ }
+    ensures { λ r. ⌜ r ≡ fields (now (s .entry)) (lists.listOf Layout.Header) ⌝ }
+{
+    [
+        fields::value(s, Layout::Header, 0),
+        fields::value(s, Layout::Header, 1),
+        fields::value(s, Layout::Header, 2),
+    ]
+}
+
+// The ticket's twenty-two values, from the front of a product.
+fn ticket_values(s: &[u8]) -> [u64; 22]
+    requires { ⌜ 29 ≤ length (now s) ⌝ }
+    ensures { λ r. ⌜ r ≡ fields (now (s .entry)) (lists.listOf kind) ⌝ }
+{
+    [
+        fields::value(s, Layout::Typ23, 0),
+        fields::value(s, Layout::Typ23, 1),
+        fields::value(s, Layout::Typ23, 2),
+        fields::value(s, Layout::Typ23, 3),
+        fields::value(s, Layout::Typ23, 4),
+        fields::value(s, Layout::Typ23, 5),
+        fields::value(s, Layout::Typ23, 6),
+        fields::value(s, Layout::Typ23, 7),
+        fields::value(s, Layout::Typ23, 8),
+        fields::value(s, Layout::Typ23, 9),
+        fields::value(s, Layout::Typ23, 10),
+        fields::value(s, Layout::Typ23, 11),
+        fields::value(s, Layout::Typ23, 12),
+        fields::value(s, Layout::Typ23, 13),
+        fields::value(s, Layout::Typ23, 14),
+        fields::value(s, Layout::Typ23, 15),
+        fields::value(s, Layout::Typ23, 16),
+        fields::value(s, Layout::Typ23, 17),
+        fields::value(s, Layout::Typ23, 18),
+        fields::value(s, Layout::Typ23, 19),
+        fields::value(s, Layout::Typ23, 20),
+        fields::value(s, Layout::Typ23, 21),
+    ]
+}
+
+// The end of a ticket in minutes: the day of a stamp, and the time of that day.
+fn end_of(stamp: u64, minutes: u64) -> u64
+    requires { ⌜ (stamp < 16384) × (minutes < 1440) ⌝ }
+    ensures { λ r. ⌜ r ≡ dayOf stamp * 1440 + minutes ⌝ }
+{
+    dates::day(stamp) * 1440 + minutes
+}
+
+// Copies the product of a ticket into the buffer, and reads the ticket.
+pub fn read_ticket(image: &[u8], entry: usize, buffer: &mut [u8]) -> TicketRead
+    ensures { λ r. ⌜ r ≡ readTicket (now (image .entry)) entry (length (now (buffer .entry))) ⌝ }
+    ensures { λ _. ⌜ now (buffer .exit) ≡ bufferAfter (now (image .entry)) entry (now (buffer .entry)) ⌝ }
+{
+    match judge(image, entry, buffer.len()) {
+        Judged::Taken(found) => {
+            let g = found.shape;
+            copy_product(image, g, entry, found.sectors, buffer);
+            let start = 4 + entry * g.size;
+            let first = &image[start..];
+            TicketRead {
+                number: 0,
+                entry: 0,
+                header: header_values(first),
+                values: ticket_values(first),
+                end: end_of(entry_value(image, g, entry, 6), found.minutes),
+                mark: found.mark,
+                sectors: found.sectors,
+            }
+        }
+        Judged::Refused(n, e) => TicketRead {
+            number: n,
+            entry: e,
+            header: [0; 3],
+            values: [0; 22],
+            end: 0,
+            mark: 0,
+            sectors: 0,
+        },
+    }
+}
+
+// Copies likewise; the answer is where the dataset ends.
+pub fn fill(image: &[u8], entry: usize, buffer: &mut [u8]) -> Filled
+    ensures { λ r. ⌜ r ≡ fillOf (now (image .entry)) entry (length (now (buffer .entry))) ⌝ }
+    ensures { λ _. ⌜ now (buffer .exit) ≡ bufferAfter (now (image .entry)) entry (now (buffer .entry)) ⌝ }
+{
+    match judge(image, entry, buffer.len()) {
+        Judged::Taken(found) => {
+            let g = found.shape;
+            copy_product(image, g, entry, found.sectors, buffer);
+            Filled::End(found.extent)
+        }
+        Judged::Refused(n, e) => Filled::Refused(n, e),
+    }
+}
+
+// Copies likewise, and hands back the dataset bytes after the fixed fields, as a part of that buffer; refused, the empty part.
+pub fn rest<'a>(image: &[u8], entry: usize, buffer: &'a mut [u8]) -> &'a mut [u8]
+    ensures { λ r. ⌜ now r ≡ rest (now (image .entry)) entry (length (now (buffer .entry))) ⌝ }
+    ensures { λ r. ⌜ (r .ptr .0 ≡ buffer .entry .ptr .0) × (r .ptr .1 ≡ restAt (now (image .entry)) entry (length (now (buffer .entry))) + buffer .entry .ptr .1) ⌝ }
+{
+    let d = fill(image, entry, buffer);
+    let Filled::End(end) = d else {
+        return &mut buffer[0..0];
+    };
+    &mut buffer[29..end]
 }

@@ -1,15 +1,13 @@
+-- `reads::check_room` meets its contract: its test is the definition's. Assumes nothing.
+use borrow.Author.Tests.{le-leb, lt-leb}
 use Rattle.reads.proofs.check_room.Statement.{statement}
 use Rattle.reads.proofs.check_room.Tie as tie
-use Rattle.reads.proofs.check_room.Reads as reads
-use Rattle.reads.proofs.check_room.Lts as lts
 
--- src/lib.rt:370:1
 returns : tie.Need-returns
-returns c = ?
+returns c = rw (le-leb _ _ (c .if1 .taken))
 
--- src/lib.rt:370:1
 returns-2 : tie.Need-returns-2
-returns-2 c = ?
+returns-2 c = rw (lt-leb _ _ (c .if1 .left))
 
 pub check-room-spec : {M : Type 1} → statement M
 check-room-spec = tie.close (tie.spec returns returns-2)

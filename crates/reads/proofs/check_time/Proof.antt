@@ -1,21 +1,17 @@
+-- `reads::check_time` meets its contract: the largest time of day is that of field 9. Assumes nothing.
+use borrow.Author.Tests.{le-leb, lt-leb}
 use borrow.Author.Needs.{needs}
 use Rattle.reads.proofs.check_time.Statement.{statement}
 use Rattle.reads.proofs.check_time.Tie as tie
-use Rattle.reads.proofs.check_time.Reads as reads
-use Rattle.reads.proofs.check_time.Lts as lts
-use Rattle.ticket.proofs.limit.Reads as limit-reads
 
--- src/lib.rt:423:16
 limit-requires : tie.Need-limit-requires
 limit-requires c κs = search needs
 
--- src/lib.rt:420:1
 returns : tie.Need-returns
-returns c = ?
+returns c = let e = c .before .limit .ensures in rw (← e, le-leb _ _ (c .if1 .taken))
 
--- src/lib.rt:420:1
 returns-2 : tie.Need-returns-2
-returns-2 c = ?
+returns-2 c = let e = c .before .limit .ensures in rw (← e, lt-leb _ _ (c .if1 .left))
 
 pub check-time-spec : {M : Type 1} → statement M
 check-time-spec = tie.close (tie.spec limit-requires returns returns-2)

@@ -1,45 +1,55 @@
+-- `reads::copy` meets its contract: the loop keeps that the first i bytes are copied. Assumes nothing.
+use mathlib.Core.Path.{_≡_, refl, sym, ap, _∙_}
+use native.Mathlib.Omega.{arith}
+use Prim.Native.Nat.{ℕ, _+_, _-_, _≤_, _<_}
+use mathlib.Core.List.{_++_}
+use lib.ListN.{length}
+use Rattle.reads.proofs.Copied.{copied, copy-more, copy-length, copy-whole}
 use Rattle.reads.proofs.copy.Statement.{statement}
 use Rattle.reads.proofs.copy.Tie as tie
-use Rattle.reads.proofs.copy.Reads as reads
-use Rattle.reads.proofs.copy.Lts as lts
 
 abbrev Inv-loop : tie.InvT-loop
-Inv-loop from to₀ i₀ to i = ?
+Inv-loop from to₀ i₀ to i = (i ≤ length from) × (to ≡ copied from to₀ i)
 
 abbrev μ-loop : tie.MeasureT-loop
-μ-loop from to₀ i₀ to i = ?
+μ-loop from to₀ i₀ to i = length from - i
 
--- src/lib.rt:516:5
+-- the slice is as long as it was
+long : (c : tie.At-loop Inv-loop μ-loop) → length (c .loop .to) ≡ length (c .before .args .to .now)
+long c =
+    let p = c .before .pre in
+    ap length (c .loop .inv .1) ∙ copy-length _ _ (c .loop .i) (omega arith) (omega arith)
+
 loop-holds : tie.Need-loop-holds Inv-loop μ-loop
-loop-holds c = ?
+loop-holds c = (omega arith, refl)
 
--- src/lib.rt:517:17
 shared-slice-read-to : tie.Need-shared-slice-read-to Inv-loop μ-loop
-shared-slice-read-to c = ?
+shared-slice-read-to c = omega arith
 
--- src/lib.rt:517:9
 slice-write-to : tie.Need-slice-write-to Inv-loop μ-loop
-slice-write-to c = ?
+slice-write-to c = omega (arith, long (c .before .before))
 
--- src/lib.rt:518:9
 add-i : tie.Need-add-i Inv-loop μ-loop
-add-i c = ?
+add-i c = omega arith
 
--- src/lib.rt:516:5
 loop-less : tie.Need-loop-less Inv-loop μ-loop
-loop-less c = ?
+loop-less c = omega arith
 
--- src/lib.rt:516:5
 loop-again : tie.Need-loop-again Inv-loop μ-loop
-loop-again c = ?
+loop-again c =
+    let l = c .before .before .loop in
+    let a = c .before .before .before .args in
+    let p = c .before .before .before .pre in
+    (omega arith, rw (l .inv .1) (copy-more (a .from .now) (a .to .now) (l .i) (omega arith) (omega arith)))
 
--- src/lib.rt:511:1
 same-length : tie.Need-same-length Inv-loop μ-loop
-same-length c = ?
+same-length c = long (c .before)
 
--- src/lib.rt:511:1
 returns : tie.Need-returns Inv-loop μ-loop
-returns c = ?
+returns c =
+    let l = c .before .loop in
+    let p = c .before .before .pre in
+    rw (l .inv .1) (copy-whole _ _ (l .i) (omega arith) (omega arith))
 
 pub copy-spec : {M : Type 1} → statement M
 copy-spec =

@@ -1,45 +1,43 @@
+-- `reads::entry_value` meets its contract: the entry stands where the shape says. Assumes nothing.
+use mathlib.Core.Path.{_≡_, refl, sym, ap, _∙_}
+use native.Mathlib.Omega.{arith}
+use Prim.Native.Nat.{ℕ, _+_, _-_, _*_}
+use Rattle.reads.proofs.Places.{entry-at, entry-is, from-is, from-length}
 use borrow.Author.Needs.{needs}
 use Rattle.reads.proofs.entry_value.Statement.{statement}
 use Rattle.reads.proofs.entry_value.Tie as tie
-use Rattle.reads.proofs.entry_value.Reads as reads
-use Rattle.reads.proofs.entry_value.Lts as lts
-use Rattle.fields.proofs.value.Reads as value-reads
 
--- src/lib.rt:436:14
 add-at : tie.Need-add-at
 add-at c = search needs
 
--- src/lib.rt:436:37
 sub-at : tie.Need-sub-at
 sub-at c = search needs
 
--- src/lib.rt:436:32
 mul-at : tie.Need-mul-at
 mul-at c = search needs
 
--- src/lib.rt:436:14
 add-at-2 : tie.Need-add-at-2
 add-at-2 c = search needs
 
--- src/lib.rt:437:19
 sub-value : tie.Need-sub-value
 sub-value c = search needs
 
--- src/lib.rt:437:19
 part-value-start : tie.Need-part-value-start
 part-value-start c = search needs
 
--- src/lib.rt:437:19
 part-value-end : tie.Need-part-value-end
 part-value-end c = search needs
 
--- src/lib.rt:437:5
 value-requires : tie.Need-value-requires
-value-requires c κs = search needs
+value-requires c κs =
+    let p = c .before .before .before .pre in
+    let a = c .before .before .before .args in
+    (omega arith, rw (from-length (a .image .now) (a .g .directory + 2 + 5 * (a .j - 1))) (omega (arith, entry-at (p .0) (a .j) (omega arith) (omega arith))))
 
--- src/lib.rt:431:1
 returns : tie.Need-returns
-returns c = ?
+returns c =
+    let a = c .before .before .before .before .args in
+    rw (c .value .ensures, from-is (a .image .now) (a .g .directory + 2 + 5 * (a .j - 1)), entry-is (c .before .before .before .before .pre .0) (a .j))
 
 pub entry-value-spec : {M : Type 1} → statement M
 entry-value-spec =

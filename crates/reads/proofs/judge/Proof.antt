@@ -1,34 +1,28 @@
+-- `reads::judge` meets its contract: the image is judged first, and then the ticket. Assumes nothing.
+use mathlib.Core.Path.{_≡_, refl, sym, ap, _∙_}
+use Rattle.image.proofs.Accepted.{refused-shut}
+use Rattle.reads.proofs.InOrder.{judged-shut}
 use borrow.Author.Needs.{needs}
 use Rattle.reads.proofs.judge.Statement.{statement}
 use Rattle.reads.proofs.judge.Tie as tie
-use Rattle.reads.proofs.judge.Reads as reads
-use Rattle.reads.proofs.judge.Lts as lts
-use Rattle.image.proofs.check.Reads as check-reads
-use Rattle.reads.proofs.check_ticket.Reads as check-ticket-reads
 
--- src/lib.rt:504:11
 check-requires : tie.Need-check-requires
 check-requires c κs = search needs
 
--- src/lib.rt:505:27
 enum-known-g : tie.Need-enum-known-g
 enum-known-g c = search needs
 
--- src/lib.rt:505:33
 check-ticket-requires : tie.Need-check-ticket-requires
-check-ticket-requires c κs = ?
+check-ticket-requires c κs = sym (c .before .before .before .check .ensures) ∙ c .before .g .given .1
 
--- src/lib.rt:506:26
 enum-known-n : tie.Need-enum-known-n
 enum-known-n c = search needs
 
--- src/lib.rt:501:1
 returns : tie.Need-returns
 returns c = search needs
 
--- src/lib.rt:501:1
 returns-2 : tie.Need-returns-2
-returns-2 c = ?
+returns-2 c = judged-shut _ _ _ (refused-shut _ _ _ (sym (c .before .before .before .check .ensures) ∙ c .before .n .given .1))
 
 pub judge-spec : {M : Type 1} → statement M
 judge-spec =

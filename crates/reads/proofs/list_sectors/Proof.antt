@@ -27,12 +27,12 @@ here : (c : tie.In-loop Inv-loop μ-loop) → Sector (S (c .before .before .befo
 here c =
     let p = c .before .before .before .before .pre in
     let l = c .before .loop in
-    rw (l .inv .2 (omega arith)) (there-at (p .0) (p .1 .0) (l .k) (omega arith))
+    rw (l .inv .2 (omega arith)) (there-at (p .1 .0) (l .k) (omega arith))
 
 loop-holds : tie.Need-loop-holds Inv-loop μ-loop
 loop-holds c =
     let p = c .before .before .pre in
-    (omega arith, refl, λ h. sym (there-start (p .0) (p .1 .0)))
+    (omega arith, refl, λ h. sym (there-start (p .1 .0)))
 
 cast-out : tie.Need-cast-out Inv-loop μ-loop
 cast-out c =
@@ -59,7 +59,7 @@ loop-again c =
     let a = o .args in
     let p = o .pre in
     let i : l .i ≡ getD (sectors (a .image .now) (a .j)) (l .k) 0 = l .inv .2 (omega arith) in
-    (omega arith, rw (l .inv .1, i) (copy-more (sectors (a .image .now) (a .j)) (a .out .now) (l .k) (omega arith) (omega arith)), λ h. c .element-of .ensures .0 ∙ ap (element (a .image .now)) i ∙ there-next (p .0) (p .1 .0) (l .k) (omega arith))
+    (omega arith, rw (l .inv .1, i) (copy-more (sectors (a .image .now) (a .j)) (a .out .now) (l .k) (omega arith) (omega arith)), λ h. c .element-of .ensures .0 ∙ ap (element (a .image .now)) i ∙ there-next (p .1 .0) (l .k) (omega arith))
 
 same-length : tie.Need-same-length Inv-loop μ-loop
 same-length c = long (c .before)

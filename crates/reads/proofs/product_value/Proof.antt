@@ -1,37 +1,52 @@
+-- `reads::product_value` meets its contract: a record within 256 bits lies in the first sector. Assumes nothing.
+use mathlib.Core.Path.{_≡_, refl, sym, ap, _∙_}
+use native.Mathlib.Omega.{arith}
+use Prim.Native.Nat.{ℕ, _+_, _-_, _*_}
+use Rattle.reads.proofs.Places.{from-is, from-length}
+use Rattle.reads.proofs.Sectors.{start-in, start-is, value-first}
 use borrow.Author.Needs.{needs}
 use Rattle.reads.proofs.product_value.Statement.{statement}
 use Rattle.reads.proofs.product_value.Tie as tie
-use Rattle.reads.proofs.product_value.Reads as reads
-use Rattle.reads.proofs.product_value.Lts as lts
-use Rattle.fields.proofs.value.Reads as value-reads
 
--- src/lib.rt:447:21
 mul-start : tie.Need-mul-start
-mul-start c = ?
+mul-start c =
+    let p = c .before .before .pre in
+    let b = p .0 .in-bounds in
+    omega (arith, start-in (p .0) (p .1 .0), p .0 .size-is)
 
--- src/lib.rt:447:17
 add-start : tie.Need-add-start
-add-start c = ?
+add-start c =
+    let p = c .before .before .pre in
+    let b = p .0 .in-bounds in
+    omega (arith, start-in (p .0) (p .1 .0), p .0 .size-is)
 
--- src/lib.rt:448:19
 sub-value : tie.Need-sub-value
-sub-value c = ?
+sub-value c =
+    let p = c .before .before .pre in
+    let b = p .0 .in-bounds in
+    omega (arith, start-in (p .0) (p .1 .0), p .0 .size-is)
 
--- src/lib.rt:448:19
 part-value-start : tie.Need-part-value-start
-part-value-start c = ?
+part-value-start c =
+    let p = c .before .before .pre in
+    let b = p .0 .in-bounds in
+    omega (arith, start-in (p .0) (p .1 .0), p .0 .size-is)
 
--- src/lib.rt:448:19
 part-value-end : tie.Need-part-value-end
 part-value-end c = search needs
 
--- src/lib.rt:448:5
 value-requires : tie.Need-value-requires
-value-requires c κs = ?
+value-requires c κs =
+    let p = c .before .before .before .pre in
+    let b = p .0 .in-bounds in
+    let a = c .before .before .before .args in
+    (omega arith, rw (from-length (a .image .now) (4 + a .j * a .g .size)) (omega (arith, start-in (p .0) (p .1 .0))))
 
--- src/lib.rt:441:1
 returns : tie.Need-returns
-returns c = ?
+returns c =
+    let p = c .before .before .before .before .pre in
+    let a = c .before .before .before .before .args in
+    rw (c .value .ensures, from-is (a .image .now) (4 + a .j * a .g .size), start-is (p .0) (a .j)) (value-first (p .1 .0) (a .k) (a .i) (omega arith) (omega arith))
 
 pub product-value-spec : {M : Type 1} → statement M
 product-value-spec =

@@ -35,7 +35,7 @@ unfolding chainedIn
 list-sectors-requires c κs = let k = known (c .before .before .before) in
     let s = k .opened .shape in
     let b = s .in-bounds in
-    rw (c .before .chain-of .ensures) (s, (k .there, (refl, omega (arith, there-few s (k .there)))))
+    rw (c .before .chain-of .ensures) (s, (k .there, (refl, omega (arith, there-few (k .there)))))
 
 enum-known-n : tie.Need-enum-known-n
 enum-known-n c = search needs

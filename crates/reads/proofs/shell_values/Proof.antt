@@ -1,5 +1,7 @@
 -- `reads::shell_values` meets its contract: each call reads the field at its number. Assumes nothing.
+use mathlib.Core.Path.{refl}
 use Rattle.fields.specs.Fields.{fields}
+use Rattle.reads.proofs.Copied.{cons-is}
 use borrow.Author.Needs.{needs}
 use Rattle.reads.proofs.shell_values.Statement.{statement}
 use Rattle.reads.proofs.shell_values.Tie as tie
@@ -54,7 +56,7 @@ value-requires-16 c κs = search needs
 
 returns : tie.Need-returns
 unfolding fields
-returns c = rw (c .before .before .before .before .before .before .before .before .before .before .before .before .before .before .before .value .ensures, c .before .before .before .before .before .before .before .before .before .before .before .before .before .before .value2 .ensures, c .before .before .before .before .before .before .before .before .before .before .before .before .before .value3 .ensures, c .before .before .before .before .before .before .before .before .before .before .before .before .value4 .ensures, c .before .before .before .before .before .before .before .before .before .before .before .value5 .ensures, c .before .before .before .before .before .before .before .before .before .before .value6 .ensures, c .before .before .before .before .before .before .before .before .before .value7 .ensures, c .before .before .before .before .before .before .before .before .value8 .ensures, c .before .before .before .before .before .before .before .value9 .ensures, c .before .before .before .before .before .before .value10 .ensures, c .before .before .before .before .before .value11 .ensures, c .before .before .before .before .value12 .ensures, c .before .before .before .value13 .ensures, c .before .before .value14 .ensures, c .before .value15 .ensures, c .value16 .ensures)
+returns c = cons-is (c .before .before .before .before .before .before .before .before .before .before .before .before .before .before .before .value .ensures) (cons-is (c .before .before .before .before .before .before .before .before .before .before .before .before .before .before .value2 .ensures) (cons-is (c .before .before .before .before .before .before .before .before .before .before .before .before .before .value3 .ensures) (cons-is (c .before .before .before .before .before .before .before .before .before .before .before .before .value4 .ensures) (cons-is (c .before .before .before .before .before .before .before .before .before .before .before .value5 .ensures) (cons-is (c .before .before .before .before .before .before .before .before .before .before .value6 .ensures) (cons-is (c .before .before .before .before .before .before .before .before .before .value7 .ensures) (cons-is (c .before .before .before .before .before .before .before .before .value8 .ensures) (cons-is (c .before .before .before .before .before .before .before .value9 .ensures) (cons-is (c .before .before .before .before .before .before .value10 .ensures) (cons-is (c .before .before .before .before .before .value11 .ensures) (cons-is (c .before .before .before .before .value12 .ensures) (cons-is (c .before .before .before .value13 .ensures) (cons-is (c .before .before .value14 .ensures) (cons-is (c .before .value15 .ensures) (cons-is (c .value16 .ensures) refl)))))))))))))))
 
 pub shell-values-spec : {M : Type 1} → statement M
 shell-values-spec =
