@@ -4,6 +4,7 @@ mod encodes;
 mod feed;
 mod files;
 mod hex;
+mod lends;
 mod line;
 mod listing;
 mod looks;
@@ -47,6 +48,10 @@ fn common(
     let n = words::least(size, image.len());
     let looked = looks::answer(line, count, &list, &image[0..n], out, at);
     if let Said::Upto(next) = looked {
+        return Said::Upto(next);
+    }
+    let lent = lends::answer(line, count, &list, &image[0..n], buffer, out, at);
+    if let Said::Upto(next) = lent {
         return Said::Upto(next);
     }
     let encoded = encodes::answer(line, count, &list, out, at);

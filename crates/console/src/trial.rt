@@ -2,11 +2,10 @@
 use crate::State;
 use crate::decodes;
 use crate::hex;
+use crate::lends;
 use crate::line;
 use crate::values;
 use crate::words;
-ghost use mathlib.Core.Path.{_≡_};
-ghost use lib.ListN.{length, replicate};
 
 const LARGEST: u64 = 65535;
 
@@ -35,24 +34,13 @@ pub(crate) fn answer(
     state.answered(decodes::answer(line, out, state.answer))
 }
 
-// Fills a buffer with a byte.
-pub(crate) fn fill(s: &mut [u8], b: u8)
-    ensures { λ _. ⌜ now (s .exit) ≡ replicate (length (now (s .entry))) b ⌝ }
-{
-    let mut i = 0;
-    while i < s.len() {
-        s[i] = b;
-        i += 1;
-    }
-}
-
 // The image becomes so many zeros.
 fn fresh(size: u64, image: &mut [u8], out: &mut [u8], state: State) -> State {
     if LARGEST < size {
         return state.answered(line::unknown(out, state.answer));
     }
     let n = words::least(size as usize, image.len());
-    fill(&mut image[0..n], 0);
+    lends::fill(&mut image[0..n], 0);
     let next = text::put_number(out, state.answer, n as u64);
     State {
         image: n,

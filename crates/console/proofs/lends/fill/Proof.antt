@@ -8,8 +8,8 @@ use lib.ListN.{length, drop, replicate, set, length-set}
 use lib.Seq.{drop-length}
 use native.Mathlib.Omega.{arith}
 use borrow.Author.Fill.{fill-none, fill-more}
-use Rattle.console.proofs.trial.fill.Statement.{statement}
-use Rattle.console.proofs.trial.fill.Tie as tie
+use Rattle.console.proofs.lends.fill.Statement.{statement}
+use Rattle.console.proofs.lends.fill.Tie as tie
 
 abbrev Inv-loop : tie.InvT-loop
 Inv-loop s₀ b i₀ s i = (i ≤ length s₀) × (length s ≡ length s₀) × (s ≡ replicate i b ++ drop i s₀)
