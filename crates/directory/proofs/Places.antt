@@ -1,7 +1,7 @@
 -- The places of a table's elements meet end to end, so that every law of such lists is one of the table. Assumes nothing.
-use mathlib.Core.Path.{_≡_, refl, sym, ap, _∙_}
+use mathlib.Core.Path.{_≡_, refl, ap, _∙_}
 use mathlib.Core.Bool.{Bool, true, false, _&&_}
-use mathlib.Core.List.{List, [], _∷_, _++_}
+use mathlib.Core.List.{List, _∷_}
 use Prim.Native.Nat.{ℕ, zero, suc, _+_, _-_, _*_, _≤_, _<_}
 use native.Mathlib.Nat.{add-zero, mul-zero, mul-suc, mul-le-mul, mul-le-mul-left}
 use native.Mathlib.Numerals.{add-one}
@@ -13,7 +13,7 @@ use Rattle.bits.specs.Bits.{field, store}
 use Rattle.fields.specs.declared.Span.{Span}
 use Rattle.fields.specs.Lists.{span, nth, joined}
 use Rattle.fields.specs.Fields.{fields, stores}
-use Rattle.fields.proofs.Laws.{getD-fields, length-fields}
+use Rattle.fields.proofs.Laws.{getD-fields}
 use Rattle.directory.specs.Table.{places}
 
 both : (a b : Bool) → T a → T b → T (a && b)

@@ -7,16 +7,10 @@ use lib.ListN.{length}
 use Rattle.bits.specs.Bits.{Bytes}
 use Rattle.rules.specs.Claim.{Means}
 use Rattle.fields.specs.declared.Layout.the-variants as layout
-use Rattle.fields.specs.Fields.{fit, fields, packNumber, packed}
+use Rattle.fields.specs.Fields.{fit}
 use Rattle.fields.specs.Lists as lists
 use Rattle.fields.proofs.Joined.{lists-joined}
 use Rattle.fields.proofs.Whole.{decode-encode, encode-decode, packed-exactly}
-use Rattle.directory.specs.declared.Entry.{Entry}
-use Rattle.directory.specs.declared.EntryBytes.{EntryBytes}
-use Rattle.directory.specs.declared.Head.{Head}
-use Rattle.directory.specs.declared.HeadBytes.{HeadBytes}
-use Rattle.directory.specs.declared.Tail.{Tail}
-use Rattle.directory.specs.declared.TailBytes.{TailBytes}
 use Rattle.directory.specs.Records.{entryBytes, entryOf, headBytes, headOf, tailBytes, tailOf}
 
 -- decoding what was encoded gives the values back

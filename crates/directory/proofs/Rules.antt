@@ -1,5 +1,5 @@
 -- What the tests of the table's encoder and decoder say: each is the test of its rule. Assumes nothing.
-use mathlib.Core.Path.{_≡_, refl}
+use mathlib.Core.Path.{_≡_}
 use mathlib.Core.Bool.{Bool}
 use mathlib.Core.List.{List}
 use Prim.Native.Nat.{ℕ, _-_, _*_, _%_, _^_, _≤_, _<_}
@@ -10,7 +10,7 @@ use lib.ListN.{length, getD}
 use lib.Dec.{eqb}
 use borrow.Author.Tests.{le-leb, lt-leb}
 use Rattle.chains.specs.Psi.{Ψ, tableBytes}
-use Rattle.rules.specs.Claim.{holds, every, _≤?_, Kept, unless, first}
+use Rattle.rules.specs.Claim.{holds, every, _≤?_, unless, first}
 use Rattle.rules.proofs.ClaimLaws.{Numbered}
 use Rattle.rules.proofs.First.{kept-of-first}
 use Rattle.directory.specs.Table.{encodeRules, encodeNumber, decodeRules, decodeNumber}

@@ -1,29 +1,25 @@
 -- The chain table both ways: its elements are a list of fields that meet end to end, with zero bits after them. Assumes nothing.
-use mathlib.Core.Path.{_≡_, refl, sym, ap, _∙_}
-use mathlib.Core.Logic.{_↔_, _⊎_, inl, inr, ⊎-elim}
-use mathlib.Core.Bool.{true}
+use mathlib.Core.Path.{_≡_, sym, ap, _∙_}
+use mathlib.Core.Logic.{_↔_, inr, ⊎-elim}
 use mathlib.Core.List.{List, _++_}
-use Prim.Native.Nat.{ℕ, suc, _+_, _-_, _*_, _^_, _≤_, _<_}
+use Prim.Native.Nat.{ℕ, suc, _+_, _-_, _*_, _≤_}
 use native.Mathlib.Omega.{arith}
 use lib.Dec.{T}
 use lib.ListN.{length, getD, replicate, length-replicate}
 use Rattle.bits.specs.Bits.{Bytes, bit, field}
 use Rattle.bits.proofs.Laws.{lt-or-le, bit-past, field-lt}
 use Rattle.bits.proofs.Zeros.{bytes-zeros, bit-zeros, field-of-zeros, zeros-of-field}
-use Rattle.chains.specs.Psi.{Ψ, tableBytes}
+use Rattle.chains.specs.Psi.{Ψ}
 use Rattle.chains.specs.Packed as chain
-use Rattle.fields.specs.declared.Span.{Span}
-use Rattle.fields.specs.Fields.{fields, stores, limitOf}
-use Rattle.fields.specs.Lists.{span, nth, joined}
+use Rattle.fields.specs.Lists.{joined}
 use Rattle.fields.proofs.Laws.{Fit, length-fields, length-stores, fields-stores, stores-onto, bit-stores-out}
-use Rattle.rules.specs.Claim.{Kept, Fails, first}
+use Rattle.rules.specs.Claim.{Kept, Fails}
 use Rattle.rules.specs.declared.Written.{Written}
 use Rattle.rules.specs.Written.{writtenOf}
 use Rattle.rules.proofs.First.{kept-of-first, first-of-kept, taken-exactly, refused-exactly}
-use Rattle.directory.specs.declared.Elements.{Elements}
-use Rattle.directory.specs.Table.{places, elementPlaces, encodeRules, encodeNumber, packedTable, encodeIn, decodeRules, decodeNumber, elementsIn, elementsOf, decodeOf}
+use Rattle.directory.specs.Table.{elementPlaces, encodeRules, encodeNumber, packedTable, encodeIn, decodeRules, decodeNumber, elementsIn, decodeOf}
 use Rattle.directory.proofs.Places.{length-places, nth-places, places-joined, element-is}
-use Rattle.directory.proofs.Rules.{encode-numbered, decode-numbered, table-room, Taken, encode-taken-gives, Whole, decode-taken-gives}
+use Rattle.directory.proofs.Rules.{encode-numbered, decode-numbered, table-room, encode-taken-gives, decode-taken-gives}
 
 -- ---- exactly, in order, and one answer
 

@@ -1,5 +1,5 @@
 -- The chain table's elements and its bytes (document 01, "Sector chains" and "Encoding what was read"). Assumes nothing.
-use Prim.Native.Nat.{ℕ, zero, suc, _+_, _-_, _*_, _^_}
+use Prim.Native.Nat.{ℕ, zero, suc, _+_, _-_, _^_}
 use mathlib.Core.List.{List, [], _∷_, _++_}
 use lib.ListN.{length, getD, replicate}
 use Rattle.chains.specs.Psi.{Ψ, tableBytes}

@@ -3,18 +3,16 @@
 use mathlib.Core.Path.{_≡_, refl, sym, ap, ap₂, _∙_}
 use mathlib.Core.Logic.{_⊎_, inl, inr, ⊎-elim}
 use mathlib.Core.List.{List, [], _∷_}
-use mathlib.Core.Bool.{Bool, true, false, cond}
 use Prim.Native.Nat.{ℕ, zero, suc, _+_, _-_, _*_, _^_, _≤_, _<_}
 use native.Mathlib.Nat.{le-of-suc-le-suc, not-suc-le-zero}
-use native.Mathlib.Decide.{decLt}
 use native.Mathlib.Omega.{arith}
-use lib.Dec.{T, ltb}
+use lib.Dec.{T}
 use lib.ListN.{length, getD, set, length-set}
 use lib.Seq.{ext-getD, getD-set-same, getD-set-other}
 use lib.Pow.{pow-pos}
 use borrow.Author.Tests.{lt-ltb, le-ltb}
 use Rattle.bits.specs.Bits.{Bytes, bit, field, store}
-use Rattle.bits.proofs.Laws.{Outside, lt-or-le, bit-past, ext, digit-field, field-lt, field-store, field-store-apart, store-field, length-store, bytes-store, bit-store-in, bit-store-out}
+use Rattle.bits.proofs.Laws.{lt-or-le, bit-past, ext, digit-field, field-lt, field-store, field-store-apart, store-field, length-store, bytes-store, bit-store-in, bit-store-out}
 use Rattle.fields.specs.declared.Span.{Span}
 use Rattle.fields.specs.Lists.{joined, nth}
 use Rattle.fields.specs.Fields.{fields, stores, limitOf, limits, above, lowest}

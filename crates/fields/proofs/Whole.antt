@@ -2,21 +2,21 @@
 -- list, since `packNumber` is 0 exactly where every value fits. Assumes nothing.
 use mathlib.Core.Path.{_≡_, refl, sym, ap, _∙_}
 use mathlib.Core.Logic.{_↔_}
-use mathlib.Core.Bool.{Bool, true, false, true≢false}
-use mathlib.Core.List.{List, [], _∷_}
-use Prim.Native.Nat.{ℕ, zero, suc, _*_, _^_, _≤_, _<_}
+use mathlib.Core.Bool.{Bool, true, false}
+use mathlib.Core.List.{List}
+use Prim.Native.Nat.{ℕ, _*_}
 use native.Mathlib.Omega.{arith}
-use lib.ListN.{length, getD, replicate, length-replicate}
+use lib.ListN.{length, replicate, length-replicate}
 use lib.Dec.{T}
 use Rattle.bits.specs.Bits.{Bytes}
 use Rattle.bits.proofs.Zeros.{bytes-zeros}
-use Rattle.rules.specs.Claim.{Means, holds, Fails, here, later, first}
-use Rattle.rules.proofs.ClaimLaws.{holds-means, means-holds, false-means}
+use Rattle.rules.specs.Claim.{Means, holds, first}
+use Rattle.rules.proofs.ClaimLaws.{holds-means, means-holds}
 use Rattle.fields.specs.declared.Layout.{Layout}
 use Rattle.fields.specs.declared.Span.{Span}
-use Rattle.fields.specs.Lists.{listOf, nth, joined}
-use Rattle.fields.specs.Fields.{fields, stores, storesIf, limitOf, fit, packRules, packNumber, packIn, packed}
-use Rattle.fields.proofs.Laws.{Fit, fields-stores, stores-whole, fit-fields}
+use Rattle.fields.specs.Lists.{listOf, joined}
+use Rattle.fields.specs.Fields.{fields, stores, storesIf, fit, packNumber, packed}
+use Rattle.fields.proofs.Laws.{fields-stores, stores-whole, fit-fields}
 
 -- every value fits: 0; one does not: 26
 pub taken-fit : (k : Layout) (vs : List ℕ) → Means (fit (listOf k) vs) → packNumber k vs ≡ 0

@@ -13,7 +13,7 @@ use Rattle.shell.specs.Shell.{datasetOf}
 use Rattle.rules.specs.declared.Written.{Written}
 use Rattle.rules.specs.declared.Written.the-variants.{Done}
 use Rattle.rules.specs.Written.{writtenOf, ifDone}
-use Rattle.shell.specs.Encode.{encodeNumber, encodeIn, bodyOf, secrBytes, dataset}
+use Rattle.shell.specs.Encode.{encodeNumber, encodeIn, bodyOf, dataset}
 
 pub body-is : (vs : List ℕ) {s out : List ℕ} {n : ℕ} → s ≡ replicate n 0 → n ≡ datasetOf vs - 2 → out ≡ stores s lists.shell vs → out ≡ bodyOf vs
 unfolding bodyOf

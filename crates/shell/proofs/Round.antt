@@ -1,30 +1,30 @@
 -- What is encoded is decoded, and what is decoded is encoded where the padding is zero and SECR right: the dataset is the values stored
 -- into zeros, with the checksum after them. Assumes nothing.
-use mathlib.Core.Path.{_≡_, refl, sym, ap, ap₂, _∙_}
-use mathlib.Core.Logic.{_↔_, _⊎_, inl, inr, ⊎-elim}
-use mathlib.Core.List.{List, [], _∷_, _++_, append-assoc}
-use Prim.Native.Nat.{ℕ, suc, _+_, _-_, _*_, _/_, _%_, _^_, _≤_, _<_}
+use mathlib.Core.Path.{_≡_, sym, ap, _∙_}
+use mathlib.Core.Logic.{_↔_, inr, ⊎-elim}
+use mathlib.Core.List.{List, [], _∷_, _++_}
+use Prim.Native.Nat.{ℕ, suc, _+_, _-_, _*_, _/_, _%_, _≤_, _<_}
 use native.Mathlib.Omega.{arith}
-use lib.ListN.{length, getD, take, drop, replicate, length-append, length-take, length-drop, length-replicate, take-append-drop, List·getD-append}
-use lib.Seq.{take-at, drop-at, length-take-le, getD-drop, getD-append-add, take-append-le}
+use lib.ListN.{length, getD, take, drop, replicate, length-append, length-take, length-drop, length-replicate, take-append-drop}
+use lib.Seq.{take-at, drop-at, length-take-le, getD-drop, getD-append-add}
 use Rattle.bits.specs.Bits.{Bytes, bit, field}
-use Rattle.bits.proofs.Laws.{bit-part, bit-append-left, field-byte, field-next, field-zero, bytes-take, bit-past, lt-or-le}
+use Rattle.bits.proofs.Laws.{bit-part, bit-append-left, field-next, field-zero, bytes-take, bit-past, lt-or-le}
 use Rattle.bits.proofs.Zeros.{bytes-zeros, bit-zeros, field-of-zeros, zeros-of-field}
-use Rattle.crc.specs.Crc.{register, crc}
-use Rattle.fields.specs.Fields.{fields, stores, fit}
+use Rattle.crc.specs.Crc.{crc}
+use Rattle.fields.specs.Fields.{fields, stores}
 use Rattle.fields.specs.Lists as lists
 use Rattle.fields.specs.declared.Layout.the-variants as layout
 use Rattle.fields.proofs.Joined.{lists-joined}
 use Rattle.fields.proofs.Laws.{fields-stores, stores-onto, bytes-stores, bit-stores-out}
 use Rattle.fields.proofs.Same.{fields-same, fields-front}
-use Rattle.rules.specs.Claim.{Means, Kept, Fails, first}
+use Rattle.rules.specs.Claim.{Kept, Fails}
 use Rattle.rules.specs.declared.Written.{Written}
-use Rattle.rules.specs.Written.{writtenOf, ifDone}
+use Rattle.rules.specs.Written.{writtenOf}
 use Rattle.rules.proofs.First.{kept-of-first, taken-exactly, refused-exactly}
 use Rattle.shell.specs.declared.Shell.{Shell}
 use Rattle.shell.specs.Shell.{valuesIn, datasetOf, padding, SECR, sealed}
 use Rattle.shell.specs.Encode.{decodeOf, encodeRules, encodeNumber, encodeIn, bodyOf, secrBytes, dataset}
-use Rattle.shell.proofs.Rules.{numbered, Taken, taken}
+use Rattle.shell.proofs.Rules.{numbered, taken}
 use Rattle.shell.proofs.Dataset.{length-body}
 
 -- ---- exactly, in order, and one answer

@@ -4,11 +4,10 @@ use mathlib.Core.Bool.{Bool, true, false}
 use mathlib.Core.List.{List}
 use Prim.Native.Nat.{ℕ, _≤_}
 use native.Mathlib.Omega.{arith}
-use lib.ListN.{getD}
 use lib.Dec.{eqb, leb}
 use Rattle.fields.specs.Fields.{fit}
 use Rattle.fields.specs.Lists as lists
-use Rattle.rules.specs.Claim.{holds, Kept, unless, first}
+use Rattle.rules.specs.Claim.{holds, unless, first}
 use Rattle.rules.proofs.ClaimLaws.{Numbered, holds-means}
 use Rattle.rules.proofs.First.{kept-of-first}
 use Rattle.shell.specs.Shell.{ShellLength, ShellBitMap, IIN, ISSN, CHD, datasetOf, decimal}

@@ -1,5 +1,5 @@
 -- The shell record (document 01, "Shell record"; 004, 4.1): its sixteen values, and the rules that they keep by themselves. Assumes nothing.
-use Prim.Native.Nat.{ℕ, _+_, _-_, _*_, _/_, _%_, _^_}
+use Prim.Native.Nat.{ℕ, _-_, _*_, _/_, _%_, _^_}
 use mathlib.Core.List.{List, [], _∷_}
 use lib.ListN.{getD, take}
 use Rattle.bits.specs.Bits.{field}

@@ -146,8 +146,8 @@ pub fn encode(s: Shell, out: &mut [u8]) -> Written
     let v = s.values;
     let number = judge(&v, out.len());
     if number == 0 {
-        let size = 4 * (v[0] as usize);
-        write_dataset(&mut out[..size], &v);
+        let extent = 4 * (v[0] as usize);
+        write_dataset(&mut out[..extent], &v);
         return Written::Done;
     }
     rules::answered(number)

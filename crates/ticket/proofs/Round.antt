@@ -1,22 +1,22 @@
 -- A record that is taken is decoded as it was, and bytes are encoded as they were exactly where ExpiryTime is below 1,440.
 -- Assumes nothing.
-use mathlib.Core.Path.{_≡_, refl, sym, ap, ap₂, subst, _∙_}
-use mathlib.Core.Logic.{_⊎_, inl, inr, ⊎-elim}
+use mathlib.Core.Path.{_≡_, refl, sym, ap, subst, _∙_}
+use mathlib.Core.Logic.{_↔_, _⊎_, inl, inr, ⊎-elim}
 use mathlib.Core.List.{List, [], _∷_}
-use Prim.Native.Nat.{ℕ, zero, suc, _+_, _-_, _*_, _/_, _%_, _^_, _≤_, _<_}
+use Prim.Native.Nat.{ℕ, zero, suc, _+_, _-_, _*_, _/_, _%_, _≤_, _<_}
 use native.Mathlib.Nat.{not-suc-le-zero}
 use native.Mathlib.Omega.{arith}
-use lib.ListN.{length, getD, set, drop}
-use lib.Dec.{ltb}
+use lib.ListN.{length, getD, drop}
 use borrow.Author.Tests.{lt-ltb, le-ltb}
-use Rattle.bits.specs.Bits.{Bytes, digit, bit, number, field, store}
-use Rattle.bits.proofs.Laws.{lt-or-le, bit-past, field-byte, field-lt}
+use Rattle.bits.specs.Bits.{Bytes, digit, bit, number, field}
+use Rattle.bits.proofs.Laws.{lt-or-le, bit-past, field-byte}
 use Rattle.fields.specs.declared.Layout.the-variants.{Typ23}
-use Rattle.fields.specs.Lists.{typ23, nth, joined}
-use Rattle.fields.specs.Fields.{fields, stores, limitOf, limits, lowest}
+use Rattle.fields.specs.Lists.{typ23, nth}
+use Rattle.fields.specs.Fields.{fields, stores, limitOf, lowest}
 use Rattle.fields.proofs.Joined.{lists-joined}
-use Rattle.fields.proofs.Laws.{Fit, AllLow, First, fields-stores, stores-onto, field-before, fit-fields, fit-of, getD-fields, length-fields, length-stores, bytes-stores, lowest-none, none-lowest, lowest-first, first-lowest, getD-limits}
+use Rattle.fields.proofs.Laws.{Fit, AllLow, fields-stores, stores-onto, field-before, fit-fields, getD-fields, length-fields, length-stores, bytes-stores, lowest-none, none-lowest}
 use Rattle.ticket.specs.declared.Record.{Record}
+use Rattle.ticket.specs.declared.Encoded.{Encoded}
 use Rattle.ticket.specs.Kind.{kind, mostOf, limit}
 use Rattle.ticket.specs.Ticket.{zeros, bytesOf, encoded, encodeOf, decodeOf}
 use Rattle.ticket.proofs.Limits.{length-most, limit-time, limit-other}
@@ -39,7 +39,7 @@ all-low t f j h =
 low-of : (t : Record) → length (t .values) ≡ 22 → AllLow (mostOf kind) (t .values) → Fits t
 low-of t e a = record { many = e; low = λ n h k. a (n - 1) (omega arith) }
 
--- a limit of the ticket is at (mostOf kind) the width's
+-- a limit of the ticket is at most what the width holds
 most-low : (j : ℕ) → j < 22 → getD (mostOf kind) j 0 ≤ limitOf (nth typ23 j)
 most-low j h = same-or-not j 8 time other
   where
@@ -69,6 +69,22 @@ taken-fits t e z =
     omega (arith, ap (λ x. x .number) q)))
     (λ h. low-of t e (lowest-none (mostOf kind) (t .values) (length-most ∙ sym e) (omega arith)))
     (lt-or-le 0 (lowest (mostOf kind) (t .values)))
+
+-- 26 exactly where a value is above its limit
+pub refused-exactly : (t : Record) → length (t .values) ≡ 22 → (encodeOf t .number ≡ 26) ↔ (Fits t → ⊥)
+refused-exactly t e = (there, back)
+  where
+    there : encodeOf t .number ≡ 26 → Fits t → ⊥
+    there q f = let z = ap (λ x. x .number) (taken t f) in omega arith
+
+    back : (Fits t → ⊥) → encodeOf t .number ≡ 26
+    back bad =
+        ⊎-elim (λ h. rw (lt-ltb 0 (lowest (mostOf kind) (t .values)) h))
+        (λ h. absurd (bad (low-of t e (lowest-none (mostOf kind) (t .values) (length-most ∙ sym e) (omega arith)))))
+        (lt-or-le 0 (lowest (mostOf kind) (t .values)))
+
+pub encode-unique : (t : Record) {r r′ : Encoded} → r ≡ encodeOf t → r′ ≡ encodeOf t → r ≡ r′
+encode-unique t p q = p ∙ sym q
 
 -- ---- the two bytes before the fields
 

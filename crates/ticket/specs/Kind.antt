@@ -1,8 +1,8 @@
 -- What a kind of ticket is (document 01, "Ticket fields"; 000, Table 31a), said here and nowhere else. Assumes nothing.
 use Prim.Native.Nat.{ℕ, _+_, _-_, _*_, _/_}
-use mathlib.Core.List.{List}
+use mathlib.Core.List.{List, []}
 use lib.ListN.{length, getD, set}
-use mathlib.Core.List.{[], _∷_}
+use mathlib.Core.List.{_∷_}
 use Rattle.rules.specs.Claim.{_≡?_, _≤?_, Rule, rule}
 use Rattle.fields.specs.declared.Layout.{Layout}
 use Rattle.fields.specs.declared.Layout.the-variants.{Typ23}

@@ -1,12 +1,14 @@
 -- What a TYP 23 ticket is, and what the calls on its record answer. Assumes nothing.
-use Prim.Native.Nat.{ℕ, zero, suc, _-_}
-use mathlib.Core.Bool.{Bool, true, false, cond}
+use Prim.Native.Nat.{ℕ, zero, suc, _+_, _-_, _*_}
+use mathlib.Core.Bool.{cond}
 use mathlib.Core.List.{List, [], _∷_}
 use lib.ListN.{getD, set, drop}
 use lib.Dec.{ltb}
 use Rattle.fields.specs.Lists.{typ23}
 use Rattle.fields.specs.Fields.{fields, stores, lowest}
-use Rattle.ticket.specs.Kind.{kind, mostOf, limit}
+use Rattle.dates.specs.Stamps.{dayOf}
+use Rattle.rules.specs.Claim.{_≤?_, Rule, rule, first}
+use Rattle.ticket.specs.Kind.{kind, countOf, mostOf, limit}
 use Rattle.ticket.specs.declared.Record.{Record}
 use Rattle.ticket.specs.declared.Changed.{Changed}
 use Rattle.ticket.specs.declared.Value.{Value}
@@ -18,19 +20,34 @@ answer n t = record { number = n; entry = 0; next = t }
 abbrev pub with : Record → ℕ → ℕ → Record
 with t n v = record { values = set (t .values) (n - 1) v }
 
--- 25, then 26; refused, the record as it was
+-- the checks in order: 25 (a field number not 1 to 22), 26 (a value above its limit)
+abbrev pub fieldRules : ℕ → List Rule
+fieldRules n = rule 25 (1 ≤? n) ∷ rule 25 (n ≤? countOf kind) ∷ []
+
+abbrev pub setRules : ℕ → ℕ → List Rule
+setRules n v = rule 25 (1 ≤? n) ∷ rule 25 (n ≤? countOf kind) ∷ rule 26 (v ≤? limit kind n) ∷ []
+
+unfoldable pub setNumber : ℕ → ℕ → ℕ
+setNumber n v = first (setRules n v)
+
+unfoldable pub valueNumber : ℕ → ℕ
+valueNumber n = first (fieldRules n)
+
+-- the next record; refused, the record as it was
+abbrev pub nextOf : ℕ → Record → ℕ → ℕ → Record
+nextOf zero t n v = with t n v
+nextOf (suc k) t n v = t
+
 abbrev pub setOf : Record → ℕ → ℕ → Changed
-setOf t n v =
-    cond (ltb n 1) (answer 25 t)
-    (cond (ltb 22 n) (answer 25 t)
-    (cond (ltb (limit kind n) v) (answer 26 t)
-    (answer 0 (with t n v))))
+setOf t n v = answer (setNumber n v) (nextOf (setNumber n v) t n v)
+
+-- the value of a field; refused, 0
+abbrev pub valueIf : ℕ → ℕ → Value
+valueIf zero v = record { number = 0; entry = 0; value = v }
+valueIf (suc k) v = record { number = suc k; entry = 0; value = 0 }
 
 abbrev pub valueOf : Record → ℕ → Value
-valueOf t n =
-    cond (ltb n 1) (record { number = 25; entry = 0; value = 0 })
-    (cond (ltb 22 n) (record { number = 25; entry = 0; value = 0 })
-    (record { number = 0; entry = 0; value = getD (t .values) (n - 1) 0 }))
+valueOf t n = valueIf (valueNumber n) (getD (t .values) (n - 1) 0)
 
 abbrev pub zeros : ℕ → List ℕ
 zeros zero = []
@@ -47,6 +64,14 @@ encoded n b = record { number = n; entry = 0; bytes = b }
 abbrev pub encodeOf : Record → Encoded
 encodeOf t = cond (ltb 0 (lowest (mostOf kind) (t .values))) (encoded 26 (zeros 27)) (encoded 0 (bytesOf (t .values)))
 
--- the values of a ticket whose bytes 2 to 28 are b
+-- the values of a ticket
+abbrev pub recordIn : List ℕ → Record
+recordIn l = record { values = fields l typ23 }
+
+-- and of one whose bytes 2 to 28 are b
 abbrev pub decodeOf : List ℕ → Record
-decodeOf b = record { values = fields (0 ∷ 0 ∷ b) typ23 }
+decodeOf b = recordIn (0 ∷ 0 ∷ b)
+
+-- the end of a ticket in minutes (document 01, "Dates"): the entry's EXP as day, and ExpiryTime
+abbrev pub endOf : ℕ → ℕ → ℕ
+endOf exp time = dayOf exp * 1440 + time

@@ -1,16 +1,15 @@
 // A ticket of TYP 23 revision 2: its record of twenty-two values, and the twenty-seven bytes that hold them.
+use fields::Eight;
 use fields::Layout;
 ghost use mathlib.Core.Path.{_≡_};
-ghost use Prim.Native.Nat.{_≤_, _<_};
+ghost use Prim.Native.Nat.{_*_, _^_, _≤_, _<_};
 ghost use mathlib.Core.List.{_∷_};
-ghost use lib.ListN.{drop};
-ghost use Rattle.fields.specs.Fields.{lowest};
-ghost use Rattle.ticket.specs.Kind.{kind, mostOf, limit};
-ghost use Rattle.ticket.specs.Ticket.{setOf, valueOf, encodeOf, decodeOf};
-
-const NO_FIELD: usize = 25;
-
-const TOO_WIDE: usize = 26;
+ghost use lib.ListN.{length, drop};
+ghost use Rattle.fields.specs.Lists as lists;
+ghost use Rattle.fields.specs.Fields.{eightAt, lowest};
+ghost use Rattle.ticket.specs.Kind.{kind, countOf, leastOf, restOf, mostOf, limit};
+ghost use Rattle.ticket.specs.Header.{headerOf, headerBytes};
+ghost use Rattle.ticket.specs.Ticket.{setOf, valueOf, encodeOf, decodeOf, recordIn, endOf};
 
 #[repr(C)]
 pub struct Record {
@@ -41,6 +40,41 @@ pub struct Encoded {
     pub bytes: [u8; 27],
 }
 
+// IPELength, IPEBitMap, IPEFormatRevision.
+#[repr(C)]
+pub struct Header {
+    pub values: [u64; 3],
+}
+
+// What encoding a header answers: its two bytes, or zeros.
+#[repr(C)]
+pub struct HeaderBytes {
+    pub number: usize,
+    pub entry: usize,
+    pub bytes: [u8; 2],
+}
+
+// How many fields a ticket has.
+pub fn count() -> usize
+    ensures { λ r. ⌜ r ≡ countOf kind ⌝ }
+{
+    22
+}
+
+// The least 4 × IPELength.
+pub fn least() -> usize
+    ensures { λ r. ⌜ r ≡ leastOf kind ⌝ }
+{
+    32
+}
+
+// The first byte after the fields.
+pub fn rest() -> usize
+    ensures { λ r. ⌜ r ≡ restOf kind ⌝ }
+{
+    29
+}
+
 // The largest value of the field n: what its width holds; ExpiryTime ends within the day.
 pub fn limit(n: usize) -> u64
     requires { ⌜ (1 ≤ n) × (n ≤ 22) ⌝ }
@@ -69,21 +103,21 @@ impl Record {
     {
         if field < 1 {
             return Changed {
-                number: NO_FIELD,
+                number: rules::NO_FIELD,
                 entry: 0,
                 next: self,
             };
         }
         if 22 < field {
             return Changed {
-                number: NO_FIELD,
+                number: rules::NO_FIELD,
                 entry: 0,
                 next: self,
             };
         }
         if limit(field) < value {
             return Changed {
-                number: TOO_WIDE,
+                number: rules::TOO_LARGE,
                 entry: 0,
                 next: self,
             };
@@ -102,25 +136,25 @@ impl Record {
     pub fn value(self, field: usize) -> Value
         ensures { λ r. ⌜ r ≡ valueOf self field ⌝ }
     {
-        if field < 1 {
+        if field == 0 {
             return Value {
-                number: NO_FIELD,
+                number: rules::NO_FIELD,
                 entry: 0,
                 value: 0,
             };
         }
-        if 22 < field {
+        if field > 22 {
             return Value {
-                number: NO_FIELD,
+                number: rules::NO_FIELD,
                 entry: 0,
                 value: 0,
             };
         }
-        let i = field - 1;
+        let at = field - 1;
         Value {
             number: 0,
             entry: 0,
-            value: self.values[i],
+            value: self.values[at],
         }
     }
 
@@ -166,7 +200,7 @@ pub fn encode(t: Record) -> Encoded
 {
     if 0 < t.lowest_bad() {
         return Encoded {
-            number: TOO_WIDE,
+            number: rules::TOO_LARGE,
             entry: 0,
             bytes: [0; 27],
         };
@@ -182,12 +216,139 @@ pub fn encode(t: Record) -> Encoded
     }
 }
 
+// The fields from RemoveDate to ValidityCode.
+fn front(s: &[u8]) -> Eight
+    requires { ⌜ 232 ≤ 8 * length (now s) ⌝ }
+    ensures { λ r. ⌜ r ≡ eightAt lists.typ23 0 (now (s .entry)) ⌝ }
+{
+    Eight(
+        fields::value(s, Layout::Typ23, 0),
+        fields::value(s, Layout::Typ23, 1),
+        fields::value(s, Layout::Typ23, 2),
+        fields::value(s, Layout::Typ23, 3),
+        fields::value(s, Layout::Typ23, 4),
+        fields::value(s, Layout::Typ23, 5),
+        fields::value(s, Layout::Typ23, 6),
+        fields::value(s, Layout::Typ23, 7),
+    )
+}
+
+// The fields from ExpiryTime to AmountPaidCurrencyCode.
+fn middle(s: &[u8]) -> Eight
+    requires { ⌜ 232 ≤ 8 * length (now s) ⌝ }
+    ensures { λ r. ⌜ r ≡ eightAt lists.typ23 8 (now (s .entry)) ⌝ }
+{
+    Eight(
+        fields::value(s, Layout::Typ23, 8),
+        fields::value(s, Layout::Typ23, 9),
+        fields::value(s, Layout::Typ23, 10),
+        fields::value(s, Layout::Typ23, 11),
+        fields::value(s, Layout::Typ23, 12),
+        fields::value(s, Layout::Typ23, 13),
+        fields::value(s, Layout::Typ23, 14),
+        fields::value(s, Layout::Typ23, 15),
+    )
+}
+
+// The last eight fields: the two before AmountPaid once more, to CPICC.
+fn back(s: &[u8]) -> Eight
+    requires { ⌜ 232 ≤ 8 * length (now s) ⌝ }
+    ensures { λ r. ⌜ r ≡ eightAt lists.typ23 14 (now (s .entry)) ⌝ }
+{
+    Eight(
+        fields::value(s, Layout::Typ23, 14),
+        fields::value(s, Layout::Typ23, 15),
+        fields::value(s, Layout::Typ23, 16),
+        fields::value(s, Layout::Typ23, 17),
+        fields::value(s, Layout::Typ23, 18),
+        fields::value(s, Layout::Typ23, 19),
+        fields::value(s, Layout::Typ23, 20),
+        fields::value(s, Layout::Typ23, 21),
+    )
+}
+
+// The record of the ticket that starts with the slice.
+pub fn record_in(s: &[u8]) -> Record
+    requires { ⌜ 232 ≤ 8 * length (now s) ⌝ }
+    ensures { λ r. ⌜ r ≡ recordIn (now (s .entry)) ⌝ }
+{
+    let a = front(s);
+    let b = middle(s);
+    let c = back(s);
+    Record {
+        values: [
+            a.0,
+            a.1,
+            a.2,
+            a.3,
+            a.4,
+            a.5,
+            a.6,
+            a.7,
+            b.0,
+            b.1,
+            b.2,
+            b.3,
+            b.4,
+            b.5,
+            b.6,
+            b.7,
+            c.2,
+            c.3,
+            c.4,
+            c.5,
+            c.6,
+            c.7,
+        ],
+    }
+}
+
 // The record that the bytes hold.
 pub fn decode(bytes: [u8; 27]) -> Record
     ensures { λ r. ⌜ r ≡ decodeOf bytes ⌝ }
 {
     let a = with_header(bytes);
-    let mut v = [0u64; 22];
-    fields::read(&a, Layout::Typ23, &mut v);
-    Record { values: v }
+    record_in(&a)
+}
+
+// The header of the ticket that starts with the slice.
+pub fn header_in(s: &[u8]) -> Header
+    requires { ⌜ 16 ≤ 8 * length (now s) ⌝ }
+    ensures { λ r. ⌜ r ≡ headerOf (now (s .entry)) ⌝ }
+{
+    Header {
+        values: [
+            fields::value(s, Layout::Header, 0),
+            fields::value(s, Layout::Header, 1),
+            fields::value(s, Layout::Header, 2),
+        ],
+    }
+}
+
+// The header that the two bytes hold.
+pub fn decode_header(bytes: [u8; 2]) -> Header
+    ensures { λ r. ⌜ r ≡ headerOf bytes ⌝ }
+{
+    header_in(&bytes)
+}
+
+// The two bytes of a header; or 26 and zeros.
+pub fn encode_header(values: [u64; 3]) -> HeaderBytes
+    ensures { λ r. ⌜ r ≡ headerBytes values ⌝ }
+{
+    let mut bytes = [0u8; 2];
+    let number = fields::pack(Layout::Header, &values, &mut bytes);
+    HeaderBytes {
+        number: number,
+        entry: 0,
+        bytes: bytes,
+    }
+}
+
+// The end of a ticket in minutes: the day of its entry's EXP, and its ExpiryTime.
+pub fn end(exp: u64, time: u64) -> u64
+    requires { ⌜ (exp < 2 ^ 32) × (time < 2 ^ 32) ⌝ }
+    ensures { λ r. ⌜ r ≡ endOf exp time ⌝ }
+{
+    dates::day(exp) * 1440 + time
 }

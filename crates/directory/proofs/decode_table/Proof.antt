@@ -1,8 +1,8 @@
 -- `directory::decode_table` meets its contract: no rule fails, and the elements stand before zeros; or one does, and all are zero. Assumes nothing.
-use mathlib.Core.Path.{_≡_, sym, _∙_}
+use mathlib.Core.Path.{sym, _∙_}
 use Prim.Native.Nat.{ℕ, _-_}
 use native.Mathlib.Omega.{arith}
-use lib.ListN.{length, take, replicate}
+use lib.ListN.{length, replicate}
 use lib.Seq.{length-take-le}
 use Rattle.directory.proofs.Rules.{decode-taken-gives, table-room}
 use Rattle.directory.proofs.Buffer.{found, nothing-found}

@@ -1,9 +1,7 @@
 -- `directory::encode_table` meets its contract: no rule fails, and the elements are packed; or one does, and nothing is written. Assumes nothing.
-use mathlib.Core.Path.{_≡_, sym, _∙_}
-use Prim.Native.Nat.{ℕ, _-_, _*_}
+use mathlib.Core.Path.{sym, _∙_}
 use native.Mathlib.Omega.{arith}
 use lib.ListN.{length}
-use Rattle.chains.specs.Psi.{Ψ}
 use Rattle.directory.proofs.Rules.{encode-taken-gives, table-room}
 use Rattle.directory.proofs.Buffer.{done, refused}
 use borrow.Author.Needs.{needs}

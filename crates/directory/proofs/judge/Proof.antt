@@ -1,7 +1,6 @@
 -- `directory::judge` meets its contract: each test is that of its rule, in their order. Assumes nothing.
 use mathlib.Core.Path.{ap}
 use Prim.Native.Nat.{ℕ, _-_}
-use native.Mathlib.Omega.{arith}
 use Rattle.directory.proofs.Rules.{encode-few, encode-many, encode-judged, one-shifted, shifted-positive}
 use borrow.Author.Needs.{needs}
 use Rattle.directory.proofs.judge.Statement.{statement}

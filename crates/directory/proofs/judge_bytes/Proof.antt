@@ -1,5 +1,4 @@
 -- `directory::judge_bytes` meets its contract: each test is that of its rule. Assumes nothing.
-use native.Mathlib.Omega.{arith}
 use Rattle.directory.proofs.Rules.{decode-few, decode-many, decode-judged}
 use borrow.Author.Needs.{needs}
 use Rattle.directory.proofs.judge_bytes.Statement.{statement}

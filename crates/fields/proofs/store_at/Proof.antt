@@ -1,8 +1,5 @@
 -- `fields::store_at` meets its contract: by the rule of the lists the place lies within the bytes. Assumes nothing.
-use mathlib.Core.Path.{_≡_}
-use Prim.Native.Nat.{ℕ, _*_, _^_, _%_, _<_}
-use native.Mathlib.Omega.{arith}
-use Rattle.fields.proofs.Joined.{place-fits, width-small}
+use Rattle.fields.proofs.Joined.{place-fits}
 use borrow.Author.Needs.{needs}
 use Rattle.fields.proofs.store_at.Statement.{statement}
 use Rattle.fields.proofs.store_at.Tie as tie

@@ -1,15 +1,12 @@
 -- `fields::write` meets its contract. The invariant: what is still to be stored makes the same of the bytes. Assumes nothing.
-use mathlib.Core.Path.{_≡_, _∙_, ap, sym, refl}
-use Prim.Native.Nat.{ℕ, _+_, _-_, _*_, _≤_, _<_}
+use mathlib.Core.Path.{_≡_, _∙_, sym, refl}
+use Prim.Native.Nat.{_-_, _≤_}
 use native.Mathlib.Omega.{arith}
-use mathlib.Core.Bool.{cond}
-use lib.ListN.{length, getD, drop, length-set}
+use lib.ListN.{length, drop}
 use borrow.Author.Needs.{needs}
-use borrow.Author.Tests.{lt-ltb, le-ltb}
-use Rattle.fields.specs.Lists.{listOf, endOf, nth}
-use Rattle.fields.specs.Fields.{fields, stores, limits, above, lowest}
-use Rattle.fields.proofs.Laws.{length-fields, getD-fields, length-limits, getD-limits}
-use Rattle.fields.proofs.Loops.{Filled, fill-start, fill-more, fill-end, stores-more, stores-end, above-more, above-end}
+use Rattle.fields.specs.Lists.{listOf}
+use Rattle.fields.specs.Fields.{stores}
+use Rattle.fields.proofs.Loops.{stores-more, stores-end}
 use Rattle.fields.proofs.write.Statement.{statement}
 use Rattle.fields.proofs.write.Tie as tie
 

@@ -1,6 +1,6 @@
 -- `shell::encode` meets its contract: no rule fails, and the dataset stands in the buffer; or one does, and nothing is written. Assumes nothing.
 use mathlib.Core.Path.{_≡_, sym, _∙_}
-use Prim.Native.Nat.{ℕ, _*_}
+use Prim.Native.Nat.{_*_}
 use native.Mathlib.Omega.{arith}
 use lib.ListN.{length, take, getD}
 use lib.Seq.{length-take-le}
@@ -16,11 +16,11 @@ slice-aggregate-judge c = search needs
 judge-requires : tie.Need-judge-requires
 judge-requires c κs = search needs
 
-array-read-size : tie.Need-array-read-size
-array-read-size c = search needs
+array-read-extent : tie.Need-array-read-extent
+array-read-extent c = search needs
 
-mul-size : tie.Need-mul-size
-mul-size c =
+mul-extent : tie.Need-mul-extent
+mul-extent c =
     let a = c .before .before .before .before .before .args in
     let t = taken (a .s .values) (length (a .out .now)) (sym (c .before .judge .ensures) ∙ c .if1 .taken) in
     omega arith
@@ -70,8 +70,8 @@ encode-spec =
     (tie.spec
     slice-aggregate-judge
     judge-requires
-    array-read-size
-    mul-size
+    array-read-extent
+    mul-extent
     slice-relend-prefix-write-dataset
     slice-aggregate-write-dataset
     slice-aggregate-write-dataset-2

@@ -1,5 +1,5 @@
 -- `shell::judge` meets its contract: each test is that of its rule, in their order. Assumes nothing.
-use mathlib.Core.Path.{_≡_, sym, _∙_}
+use mathlib.Core.Path.{sym, _∙_}
 use native.Mathlib.Omega.{arith}
 use Rattle.shell.proofs.Rules.{short, judged, wide}
 use borrow.Author.Needs.{needs}

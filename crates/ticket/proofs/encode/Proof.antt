@@ -1,22 +1,11 @@
 -- `ticket::encode` meets its contract. Assumes nothing.
-use mathlib.Core.Path.{_≡_, _∙_, ap, sym, refl}
-use mathlib.Core.List.{List, [], _∷_}
-use Prim.Native.Nat.{ℕ, _≤_, _<_}
+use mathlib.Core.Path.{_∙_, ap}
 use lib.ListN.{drop}
 use borrow.Author.Tests.{lt-ltb, le-ltb}
-use Rattle.fields.specs.Fields.{fields, lowest}
-use Rattle.fields.specs.Lists.{typ23}
-use Rattle.ticket.specs.declared.Record.{Record}
-use Rattle.ticket.specs.Kind.{kind, mostOf, limit}
 use Rattle.ticket.specs.Ticket.{encoded}
 use borrow.Author.Needs.{needs}
 use Rattle.ticket.proofs.encode.Statement.{statement}
 use Rattle.ticket.proofs.encode.Tie as tie
-use Rattle.ticket.proofs.encode.Reads as reads
-use Rattle.ticket.proofs.encode.Lts as lts
-use Rattle.fields.proofs.write.Reads as write-reads
-use Rattle.ticket.proofs.Record.lowest_bad.Reads as lowest-bad-reads
-use Rattle.ticket.proofs.without_header.Reads as without-header-reads
 
 lowest-bad-requires : tie.Need-lowest-bad-requires
 lowest-bad-requires c κs = search needs

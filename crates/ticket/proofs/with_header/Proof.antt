@@ -1,21 +1,13 @@
-use mathlib.Core.Path.{_≡_, _∙_, ap, sym, refl}
-use mathlib.Core.List.{List, [], _∷_}
-use Prim.Native.Nat.{ℕ, _+_, _-_, _≤_, _<_}
+use mathlib.Core.Path.{_≡_, refl}
+use mathlib.Core.List.{List, _∷_}
+use Prim.Native.Nat.{ℕ, _+_, _-_, _≤_}
 use native.Mathlib.Omega.{arith}
-use lib.ListN.{length, getD, set, drop, length-drop, length-set}
-use borrow.Author.Tests.{lt-ltb, le-ltb}
-use Rattle.fields.specs.Fields.{fields, stores, limits, lowest}
-use Rattle.fields.specs.Lists.{typ23}
-use Rattle.ticket.specs.Kind.{kind, mostOf, limit}
+use lib.ListN.{length, length-set}
 use Rattle.ticket.specs.Ticket.{zeros}
-use Rattle.ticket.proofs.Limits.{length-most, limit-time, limit-other}
-use Rattle.ticket.proofs.Header.{without-more, with-more}
+use Rattle.ticket.proofs.Headless.{with-more}
 use Rattle.fields.proofs.Loops.{Filled, fill-start, fill-more, fill-end}
-use borrow.Author.Needs.{needs}
 use Rattle.ticket.proofs.with_header.Statement.{statement}
 use Rattle.ticket.proofs.with_header.Tie as tie
-use Rattle.ticket.proofs.with_header.Reads as reads
-use Rattle.ticket.proofs.with_header.Lts as lts
 
 abbrev Inv-loop : tie.InvT-loop
 Inv-loop bytes a₀ i₀ a i = (i ≤ 27) × (length a ≡ 29) × Filled (0 ∷ 0 ∷ bytes) a (i + 2)

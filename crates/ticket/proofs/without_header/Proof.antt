@@ -1,20 +1,11 @@
-use mathlib.Core.Path.{_≡_, _∙_, ap, sym, refl}
-use mathlib.Core.List.{List, [], _∷_}
-use Prim.Native.Nat.{ℕ, _+_, _-_, _≤_, _<_}
+use mathlib.Core.Path.{_≡_, refl}
+use Prim.Native.Nat.{_-_, _≤_}
 use native.Mathlib.Omega.{arith}
-use lib.ListN.{length, getD, set, drop, length-drop, length-set}
-use borrow.Author.Tests.{lt-ltb, le-ltb}
-use Rattle.fields.specs.Fields.{fields, stores, limits, lowest}
-use Rattle.fields.specs.Lists.{typ23}
-use Rattle.ticket.specs.Kind.{kind, mostOf, limit}
-use Rattle.ticket.proofs.Limits.{length-most, limit-time, limit-other}
-use Rattle.ticket.proofs.Header.{without-more, with-more}
-use Rattle.fields.proofs.Loops.{Filled, fill-start, fill-more, fill-end}
-use borrow.Author.Needs.{needs}
+use lib.ListN.{length, drop, length-drop, length-set}
+use Rattle.ticket.proofs.Headless.{without-more}
+use Rattle.fields.proofs.Loops.{Filled, fill-start, fill-end}
 use Rattle.ticket.proofs.without_header.Statement.{statement}
 use Rattle.ticket.proofs.without_header.Tie as tie
-use Rattle.ticket.proofs.without_header.Reads as reads
-use Rattle.ticket.proofs.without_header.Lts as lts
 
 abbrev Inv-loop : tie.InvT-loop
 Inv-loop ticket a₀ i₀ a i = (i ≤ 27) × (length a ≡ 27) × Filled (drop 2 ticket) a i

@@ -1,22 +1,9 @@
-use mathlib.Core.Path.{_≡_, _∙_, ap, sym, refl}
-use mathlib.Core.List.{List, [], _∷_}
-use Prim.Native.Nat.{ℕ, _+_, _-_, _≤_, _<_}
-use native.Mathlib.Omega.{arith}
-use lib.ListN.{length, getD, set, drop, length-drop}
-use borrow.Author.Tests.{lt-ltb, le-ltb}
-use Rattle.fields.specs.Fields.{fields, stores, limits, lowest}
-use Rattle.fields.specs.Lists.{typ23}
-use Rattle.ticket.specs.Kind.{kind, mostOf, limit}
-use Rattle.ticket.proofs.Limits.{length-most, limit-time, limit-other}
-use Rattle.ticket.proofs.Header.{without-more, with-more}
-use Rattle.fields.proofs.Loops.{Filled, fill-start, fill-more, fill-end}
+use mathlib.Core.Path.{_≡_, _∙_, ap, sym}
+use lib.ListN.{length}
+use Rattle.ticket.proofs.Limits.{length-most}
 use borrow.Author.Needs.{needs}
 use Rattle.ticket.proofs.Record.lowest_bad.Statement.{statement}
 use Rattle.ticket.proofs.Record.lowest_bad.Tie as tie
-use Rattle.ticket.proofs.Record.lowest_bad.Reads as reads
-use Rattle.ticket.proofs.Record.lowest_bad.Lts as lts
-use Rattle.fields.proofs.first_above.Reads as first-above-reads
-use Rattle.ticket.proofs.all_limits.Reads as all-limits-reads
 
 all-limits-requires : tie.Need-all-limits-requires
 all-limits-requires c κs = search needs

@@ -1,26 +1,23 @@
-use mathlib.Core.Path.{_≡_, _∙_, ap, sym, refl}
-use mathlib.Core.List.{List, [], _∷_}
-use Prim.Native.Nat.{ℕ, _+_, _-_, _≤_, _<_}
+-- `Record::value` meets its contract: each test is that of its rule. Assumes nothing.
+use Prim.Native.Nat.{_<_, _≤_}
 use native.Mathlib.Omega.{arith}
-use lib.ListN.{length, getD, set, drop, length-drop}
-use borrow.Author.Tests.{lt-ltb, le-ltb}
-use Rattle.fields.specs.Fields.{fields, stores, limits, lowest}
-use Rattle.fields.specs.Lists.{typ23}
-use Rattle.ticket.specs.Kind.{kind, mostOf, limit}
-use Rattle.ticket.proofs.Limits.{length-most, limit-time, limit-other}
-use Rattle.ticket.proofs.Header.{without-more, with-more}
-use Rattle.fields.proofs.Loops.{Filled, fill-start, fill-more, fill-end}
 use borrow.Author.Needs.{needs}
+use Rattle.ticket.proofs.Steps.{value-low, value-high, value-done}
 use Rattle.ticket.proofs.Record.value.Statement.{statement}
 use Rattle.ticket.proofs.Record.value.Tie as tie
-use Rattle.ticket.proofs.Record.value.Reads as reads
-use Rattle.ticket.proofs.Record.value.Lts as lts
 
 returns : tie.Need-returns
-returns c = rw (lt-ltb _ _ (c .if1 .taken))
+returns c =
+    let h : c .before .args .field < 1 = omega arith in
+    rw (value-low (c .before .args .field) h)
 
 returns-2 : tie.Need-returns-2
-returns-2 c = rw (le-ltb _ _ (c .before .if1 .left), lt-ltb _ _ (c .if2 .taken))
+returns-2 c =
+    let h : 1 ≤ c .before .before .args .field = omega arith in
+    rw (value-high (c .before .before .args .field) h (c .if2 .taken))
+
+sub-at : tie.Need-sub-at
+sub-at c = search needs
 
 mul-t6 : tie.Need-mul-t6
 mul-t6 c = search needs
@@ -29,7 +26,9 @@ element-copy-out-t9 : tie.Need-element-copy-out-t9
 element-copy-out-t9 c = search needs
 
 returns-3 : tie.Need-returns-3
-returns-3 c = rw (le-ltb _ _ (c .before .before .if1 .left), le-ltb _ _ (c .before .if2 .left))
+returns-3 c =
+    let h : 1 ≤ c .before .before .before .args .field = omega arith in
+    rw (value-done (c .before .before .before .args .field) h (c .before .if2 .left))
 
 pub value-spec : {M : Type 1} → statement M
-value-spec = tie.close (tie.spec returns returns-2 mul-t6 element-copy-out-t9 returns-3)
+value-spec = tie.close (tie.spec returns returns-2 sub-at mul-t6 element-copy-out-t9 returns-3)
