@@ -48,14 +48,7 @@ pub(crate) fn fill(s: &mut [u8], b: u8)
     }
 }
 
-fn ticket(
-    image: &[u8],
-    j: u64,
-    size: u64,
-    buffer: &mut [u8],
-    out: &mut [u8],
-    at: usize,
-) -> usize {
+fn ticket(image: &[u8], j: u64, size: u64, buffer: &mut [u8], out: &mut [u8], at: usize) -> usize {
     if LARGEST < size {
         return line::unknown(out, at);
     }
@@ -72,14 +65,7 @@ fn ticket(
 }
 
 // The part of the buffer that is handed back.
-fn rest(
-    image: &[u8],
-    j: u64,
-    size: u64,
-    buffer: &mut [u8],
-    out: &mut [u8],
-    at: usize,
-) -> usize {
+fn rest(image: &[u8], j: u64, size: u64, buffer: &mut [u8], out: &mut [u8], at: usize) -> usize {
     if LARGEST < size {
         return line::unknown(out, at);
     }

@@ -14,7 +14,7 @@ mod words;
 
 pub use feed::run;
 pub use files::load;
-pub use listing::listing;
+pub use listing::list;
 use words::Said;
 
 // How long the image and the kept image are, and where the next answer goes.

@@ -3,7 +3,7 @@ use crate::line;
 use image::Checked;
 use image::Shape;
 
-pub fn listing(image: &[u8], out: &mut [u8], at: usize) -> usize {
+pub fn list(image: &[u8], out: &mut [u8], at: usize) -> usize {
     match image::check(image) {
         Checked::Accepted(g) => {
             let next = header(g, out, at);

@@ -20,7 +20,7 @@ pub(crate) fn answer(
         return Said::Upto(bytes(image, out, at));
     }
     if words::asks(line, b"list", count, 0) {
-        return Said::Upto(listing::listing(image, out, at));
+        return Said::Upto(listing::list(image, out, at));
     }
     if words::asks(line, b"shell", count, 0) {
         return Said::Upto(shell(image, out, at));
