@@ -25,6 +25,7 @@ pub struct State {
 }
 
 impl State {
+    // The state after an answer that ends here.
     pub fn answered(self, at: usize) -> Self {
         State {
             image: self.image,
