@@ -3,11 +3,11 @@ pub mod Bounded
 pub mod Shapes
 pub mod Answers
 pub mod Exact
-pub mod Examples
 pub mod Limits
 pub mod Entries
 pub mod Stops
 pub mod Verdict
+pub mod Order
 pub mod Accepted
 pub mod First
 pub mod Same

@@ -267,7 +267,7 @@ fn last_of(image: &[u8], g: Shape, j: usize) -> usize
 }
 
 // Where the walk finds the chain table.
-fn table_of(g: Shape) -> Table
+pub fn table_of(g: Shape) -> Table
     requires { ⌜ g .table ≤ 65536 ⌝ }
     ensures { λ r. ⌜ r ≡ tableOf g ⌝ }
 {

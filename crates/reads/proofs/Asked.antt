@@ -1,11 +1,11 @@
 -- What a call on one entry is refused with, case by case. Assumes nothing.
-use mathlib.Core.Path.{_≡_, refl, _∙_}
-use mathlib.Core.Bool.{Bool, true, false}
+use mathlib.Core.Path.{_≡_, refl}
+use mathlib.Core.Bool.{true, false}
 use mathlib.Core.List.{List}
 use Prim.Native.Nat.{ℕ, zero, suc}
 use Rattle.rules.specs.Claim.{Rule, first}
 use Rattle.image.specs.Image.{isProduct}
-use Rattle.image.specs.Rules.{Verdict, verdict}
+use Rattle.image.specs.Rules.{verdict}
 use Rattle.image.specs.Product.{Product, productAt, seenBy, seen}
 use Rattle.image.proofs.Accepted.{Shut}
 use Rattle.reads.specs.Asked.{named, judgedBy, asked}

@@ -4,7 +4,7 @@ use mathlib.Core.Path.{_≡_, refl, sym, ap, _∙_}
 use mathlib.Core.List.{List, [], _∷_, _++_, append-assoc}
 use Prim.Native.Nat.{ℕ, zero, suc, _+_, _≤_, _<_}
 use native.Mathlib.Numerals.{add-one}
-use native.Mathlib.Nat.{add-suc, add-zero}
+use native.Mathlib.Nat.{add-zero}
 use native.Mathlib.Omega.{arith}
 use lib.ListN.{length, getD, take, drop, set, length-append, length-drop}
 use lib.Seq.{length-take-le, drop-cons, take-suc, set-at, take-length, drop-length}
@@ -47,7 +47,3 @@ copy-whole l b i e h = rw (e, take-length l, h, drop-length b) (append-nil l)
     append-nil : (l : List ℕ) → l ++ [] ≡ l
     append-nil [] = refl
     append-nil (x ∷ xs) = ap {B = List ℕ} (λ l. x ∷ l) (append-nil xs)
-
--- two lists with the same first element and the same others
-pub cons-is : {x y : ℕ} {l m : List ℕ} → x ≡ y → l ≡ m → x ∷ l ≡ y ∷ m
-cons-is p q = cc

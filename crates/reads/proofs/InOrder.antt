@@ -1,8 +1,8 @@
 -- The checks 20 to 24, each passed before the next is made, give the number of the first rule that is not kept. Assumes nothing.
-use mathlib.Core.Path.{_≡_, refl, sym, ap, _∙_}
+use mathlib.Core.Path.{_≡_, refl, ap, _∙_}
 use mathlib.Core.Bool.{Bool, true, false, cond, _&&_}
 use mathlib.Core.List.{List}
-use Prim.Native.Nat.{ℕ, zero, suc, _*_}
+use Prim.Native.Nat.{ℕ, zero, suc}
 use native.Mathlib.Omega.{arith}
 use lib.ListN.{length, drop}
 use lib.Dec.{eqb, leb}
@@ -11,7 +11,7 @@ use Rattle.fields.specs.Fields.{valueAt}
 use Rattle.fields.specs.declared.Layout.the-variants.{Entry, Header}
 use Rattle.ticket.specs.Kind.{kind, typ, revision, leastOf, limit}
 use Rattle.image.specs.Image.{entryAt, isProduct, product}
-use Rattle.image.specs.Rules.{Verdict, verdict}
+use Rattle.image.specs.Rules.{verdict}
 use Rattle.image.specs.Product.{productAt}
 use Rattle.image.proofs.Accepted.{Shut}
 use Rattle.reads.specs.Asked.{named}

@@ -6,7 +6,7 @@ use Prim.Native.Nat.{ℕ, zero, suc, _+_, _-_, _≤_, _<_}
 use native.Mathlib.Omega.{arith}
 use borrow.Author.Tests.{le-leb, lt-leb}
 use lib.ListN.{length, getD}
-use Rattle.rules.specs.Claim.{Rule, first}
+use Rattle.rules.specs.Claim.{first}
 use Rattle.chains.specs.Chain.{Sector, Chain, Walk, found, broken}
 use Rattle.chains.specs.Packed.{told}
 use Rattle.chains.specs.declared.Walked.the-variants as W
@@ -14,14 +14,13 @@ use Rattle.chains.proofs.Laws.{chain-short}
 use Rattle.chains.proofs.Order.{chain-first, chain-next, chain-sector}
 use Rattle.image.specs.Image.{S, e#, isProduct, element, chain, sectorsOf, markOf, sectors, mark}
 use Rattle.image.specs.Rules.{Verdict, verdict}
-use Rattle.image.specs.Obeys.{IsProduct}
 use Rattle.image.specs.Product.{productAt, seenBy, seen}
-use Rattle.image.specs.Shape.{shapeOf, Shaped}
+use Rattle.image.specs.Shape.{shapeOf}
 use Rattle.image.specs.Answer.{answer, checkOf}
 use Rattle.image.specs.declared.Shape.{Shape}
 use Rattle.image.specs.declared.Checked.{Checked}
 use Rattle.image.specs.declared.Checked.the-variants.{Accepted, Refused}
-use Rattle.image.proofs.Accepted.{Open, accepted-open, Shut, refused-shut}
+use Rattle.image.proofs.Accepted.{Open, accepted-open, refused-shut}
 use Rattle.image.proofs.Exact.{test-product, product-sector}
 use Rattle.image.proofs.Stays.{chain-of}
 use Rattle.reads.specs.Asked.{judgedBy, asked}

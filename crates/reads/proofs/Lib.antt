@@ -7,3 +7,7 @@ pub mod Sectors
 pub mod InOrder
 pub mod Passed
 pub mod TwoCalls
+pub mod Exactly
+pub mod Values
+pub mod Agree
+pub mod Encoded

@@ -1,17 +1,17 @@
 -- A ticket read whose number is 0 has passed every check: the image is accepted, the entry is a product, and the rules 21 to 24 are kept.
 -- Assumes nothing.
-use mathlib.Core.Path.{_≡_, refl, sym, ap, _∙_}
+use mathlib.Core.Path.{_≡_, refl, _∙_}
 use mathlib.Core.Bool.{Bool, true, false}
-use mathlib.Core.List.{List, []}
-use Prim.Native.Nat.{ℕ, zero, suc, _*_, _≤_, _<_}
+use mathlib.Core.List.{List}
+use Prim.Native.Nat.{ℕ, zero, suc, _≤_, _<_}
 use native.Mathlib.Omega.{arith}
 use lib.ListN.{length}
-use Rattle.rules.specs.Claim.{Rule, Kept, first}
+use Rattle.rules.specs.Claim.{Kept, first}
 use Rattle.rules.proofs.ClaimLaws.{Numbered}
-use Rattle.ticket.specs.Kind.{kind, leastOf, restOf, limit}
+use Rattle.ticket.specs.Kind.{kind, leastOf}
 use Rattle.ticket.proofs.Limits.{limit-time}
 use Rattle.image.specs.Image.{isProduct, product}
-use Rattle.image.specs.Rules.{Verdict, verdict}
+use Rattle.image.specs.Rules.{verdict}
 use Rattle.image.specs.Product.{Product, productAt, seenBy, seen}
 use Rattle.image.specs.Shape.{shapeOf}
 use Rattle.image.proofs.Stops.{kept}

@@ -1,13 +1,12 @@
 -- Where the parts of an accepted image lie, for the calls that look at them. Assumes nothing.
-use mathlib.Core.Path.{_≡_, refl}
+use mathlib.Core.Path.{_≡_}
 use mathlib.Core.List.{List}
-use Prim.Native.Nat.{ℕ, zero, suc, _+_, _-_, _*_, _≤_, _<_}
+use Prim.Native.Nat.{ℕ, _+_, _-_, _*_, _≤_}
 use native.Mathlib.Omega.{arith}
 use lib.ListN.{length, take, drop, length-drop}
 use lib.Seq.{take-all}
-use Rattle.dates.specs.Stamps.{dayOf}
 use Rattle.chains.specs.Packed.{packed}
-use Rattle.image.specs.Image.{S, B, e#, SCTL, directoryAt, entryAt, tableAt, element}
+use Rattle.image.specs.Image.{e#, SCTL, entryAt, tableAt, element}
 use Rattle.image.specs.Bounds.{Bounds}
 use Rattle.image.specs.Shape.{Shaped}
 use Rattle.image.specs.declared.Shape.{Shape}
@@ -40,8 +39,3 @@ from-is l a = take-all (length l - a) (drop a l) (rw (length-drop a l) (omega ar
 
 pub from-length : (l : List ℕ) (a : ℕ) → length (take (length l - a) (drop a l)) ≡ length l - a
 from-length l a = rw (from-is l a) (length-drop a l)
-
--- the day of a stamp of 14 bits
-pub day-top : (s : ℕ) → s < 16384 → dayOf s ≤ 16384
-day-top zero h = omega arith
-day-top (suc n) h = omega arith

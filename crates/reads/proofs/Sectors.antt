@@ -6,9 +6,8 @@ use native.Mathlib.Nat.{zero-mul, suc-mul, mul-le-mul, mul-le-mul-right}
 use native.Mathlib.Numerals.{add-one}
 use native.Mathlib.Omega.{arith}
 use lib.ListN.{length, getD, take, drop, length-append, length-drop}
-use lib.Seq.{take-suc, take-at, drop-at, drop-drop, take-length, ext-getD, length-take-le}
+use lib.Seq.{take-suc, take-at, drop-at, drop-drop, take-length, ext-getD}
 use borrow.Rule.Slice.PartMut.{putMid, mid-len}
-use Rattle.bits.specs.Bits.{field}
 use Rattle.bits.proofs.Laws.{field-drop}
 use Rattle.fields.specs.declared.Layout.{Layout}
 use Rattle.fields.specs.Lists.{listOf, endOf, nth}

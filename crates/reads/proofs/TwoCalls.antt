@@ -1,9 +1,8 @@
 -- The two calls that read a ticket: what each answers where the checks take the read and where they refuse it, and that they agree.
 -- Assumes nothing.
-use mathlib.Core.Path.{_≡_, refl, sym, ap, _∙_}
-use mathlib.Core.Logic.{_↔_}
-use mathlib.Core.List.{List, [], _∷_, _++_}
-use Prim.Native.Nat.{ℕ, zero, suc, _+_, _-_, _*_, _≤_, _<_}
+use mathlib.Core.Path.{_≡_, refl, _∙_}
+use mathlib.Core.List.{List, [], _∷_}
+use Prim.Native.Nat.{ℕ, zero, suc, _-_, _≤_}
 use native.Mathlib.Omega.{arith}
 use lib.ListN.{length, take, drop, length-append, length-drop}
 use lib.Seq.{drop-append-le, take-append-le}
@@ -12,14 +11,13 @@ use Rattle.fields.specs.Lists.{listOf}
 use Rattle.fields.specs.declared.Layout.the-variants.{Header}
 use Rattle.ticket.specs.Kind.{kind}
 use Rattle.image.specs.Image.{mark, sectors, product}
-use Rattle.image.specs.Rules.{Verdict}
 use Rattle.image.specs.Product.{productAt}
 use Rattle.image.specs.Shape.{Shaped}
 use Rattle.reads.specs.Ticket.{refusal, endOf, readTicket, bufferAfter, extent, filledBy, fillOf, restBy, rest, restAt}
 use Rattle.reads.specs.declared.TicketRead.{TicketRead}
 use Rattle.reads.specs.declared.Found.{Found}
 use Rattle.reads.specs.declared.Filled.the-variants.{End, Refused}
-use Rattle.reads.proofs.Given.{value-refused, values-refused, lent-refused}
+use Rattle.reads.proofs.Given.{value-refused, values-refused}
 use Rattle.reads.proofs.Known.{Barred}
 use Rattle.reads.proofs.Passed.{Taking, passed}
 

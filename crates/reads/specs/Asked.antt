@@ -1,7 +1,7 @@
 -- What a call on an image, or on one of its products, is refused with, and what a refusal holds (document 01, "Numbers given back").
 -- Assumes nothing.
 use Prim.Native.Nat.{ℕ, zero, suc}
-use mathlib.Core.List.{List, [], _++_}
+use mathlib.Core.List.{List, _++_}
 use lib.ListN.{length, drop, replicate}
 use Rattle.rules.specs.Claim.{Rule, first}
 use Rattle.image.specs.Rules.{Verdict}

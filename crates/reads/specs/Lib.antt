@@ -3,3 +3,4 @@ pub mod Card
 pub mod Entry
 pub mod Ticket
 pub mod Checks
+pub mod Says

@@ -6,7 +6,7 @@ use Rattle.rules.specs.Claim.{_≤?_, Rule, rule}
 use Rattle.fields.specs.Fields.{fields, valueAt}
 use Rattle.fields.specs.Lists.{listOf}
 use Rattle.fields.specs.declared.Layout.the-variants.{Entry, Header}
-use Rattle.dates.specs.Stamps.{dayOf}
+use Rattle.ticket.specs.Ticket as ticket
 use Rattle.ticket.specs.Kind.{kind, limit, restOf, kindRules}
 use Rattle.image.specs.Image.{entryAt, sectors, mark, product}
 use Rattle.image.specs.Rules.{Verdict}
@@ -33,9 +33,9 @@ refusal c j room = asked c j (ticketRules room (timeIn c j))
 
 -- ---- what is given
 
--- "The end of a ticket is day × 1,440 + ExpiryTime, with the entry's EXP as day"
+-- the end of the ticket, of the entry's EXP and the product's ExpiryTime
 abbrev pub endOf : List ℕ → ℕ → ℕ
-endOf c j = dayOf (valueAt Entry 6 (drop (entryAt c j) c)) * 1440 + timeIn c j
+endOf c j = ticket.endOf (valueAt Entry 6 (drop (entryAt c j) c)) (timeIn c j)
 
 -- the header's three values and the ticket's twenty-two are fields of the product
 unfoldable pub readTicket : List ℕ → ℕ → ℕ → TicketRead

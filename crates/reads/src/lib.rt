@@ -16,8 +16,6 @@ ghost use lib.ListN.{length, drop};
 ghost use Rattle.fields.specs.Fields.{fields, valueAt};
 ghost use Rattle.fields.specs.Lists as lists;
 ghost use Rattle.chains.specs.Chain.{Sector};
-ghost use Rattle.dates.specs.Stamps.{dayOf};
-ghost use Rattle.ticket.specs.Kind.{kind};
 ghost use Rattle.image.specs.Image.{S, entryAt, element, sectors, isProduct, product};
 ghost use Rattle.image.specs.Answer.{checkOf};
 ghost use Rattle.image.specs.Shape.{Shaped, tableOf};
@@ -88,31 +86,6 @@ pub enum Filled {
     Refused(usize, usize),
 }
 
-// The shell's sixteen values.
-fn shell_values(s: &[u8]) -> [u64; 16]
-    requires { ⌜ 20 ≤ length (now s) ⌝ }
-    ensures { λ r. ⌜ r ≡ fields (now (s .entry)) lists.shell ⌝ }
-{
-    [
-        fields::value(s, Layout::Shell, 0),
-        fields::value(s, Layout::Shell, 1),
-        fields::value(s, Layout::Shell, 2),
-        fields::value(s, Layout::Shell, 3),
-        fields::value(s, Layout::Shell, 4),
-        fields::value(s, Layout::Shell, 5),
-        fields::value(s, Layout::Shell, 6),
-        fields::value(s, Layout::Shell, 7),
-        fields::value(s, Layout::Shell, 8),
-        fields::value(s, Layout::Shell, 9),
-        fields::value(s, Layout::Shell, 10),
-        fields::value(s, Layout::Shell, 11),
-        fields::value(s, Layout::Shell, 12),
-        fields::value(s, Layout::Shell, 13),
-        fields::value(s, Layout::Shell, 14),
-        fields::value(s, Layout::Shell, 15),
-    ]
-}
-
 // The directory's three leading values, from byte `first` on, and its four last, from byte `last` on.
 fn directory_values(image: &[u8], first: usize, last: usize) -> [u64; 7]
     requires { ⌜ (first + 2 ≤ length (now image)) × (last + 6 ≤ length (now image)) ⌝ }
@@ -151,11 +124,15 @@ pub fn read_shell(image: &[u8]) -> ShellRead
     ensures { λ r. ⌜ r ≡ readShell (now (image .entry)) ⌝ }
 {
     match image::check(image) {
-        Checked::Accepted(_) => ShellRead {
-            number: 0,
-            entry: 0,
-            values: shell_values(&image[4..]),
-        },
+        Checked::Accepted(_) => {
+            let shell = shell::shell_in(&image[4..]);
+            let values = shell.values;
+            ShellRead {
+                number: 0,
+                entry: 0,
+                values: values,
+            }
+        }
         Checked::Refused(n, e) => ShellRead {
             number: n,
             entry: e,
@@ -405,7 +382,7 @@ fn check_extent(blocks: usize, size: usize) -> Extent
     ensures { λ r. ⌜ r ≡ extentIn blocks size ⌝ }
 {
     let end = 4 * blocks;
-    if (32 <= end) & (end <= size) {
+    if (ticket::least() <= end) & (end <= size) {
         Extent::End(end)
     } else {
         Extent::Wrong
@@ -541,57 +518,6 @@ fn copy_product(image: &[u8], g: Shape, j: usize, count: usize, buffer: &mut [u8
     }
 }
 
-// The header's three values, from the front of a product.
-fn header_values(s: &[u8]) -> [u64; 3]
-    requires { ⌜ 2 ≤ length (now s) ⌝ }
-    ensures { λ r. ⌜ r ≡ fields (now (s .entry)) (lists.listOf Layout.Header) ⌝ }
-{
-    [
-        fields::value(s, Layout::Header, 0),
-        fields::value(s, Layout::Header, 1),
-        fields::value(s, Layout::Header, 2),
-    ]
-}
-
-// The ticket's twenty-two values, from the front of a product.
-fn ticket_values(s: &[u8]) -> [u64; 22]
-    requires { ⌜ 29 ≤ length (now s) ⌝ }
-    ensures { λ r. ⌜ r ≡ fields (now (s .entry)) (lists.listOf kind) ⌝ }
-{
-    [
-        fields::value(s, Layout::Typ23, 0),
-        fields::value(s, Layout::Typ23, 1),
-        fields::value(s, Layout::Typ23, 2),
-        fields::value(s, Layout::Typ23, 3),
-        fields::value(s, Layout::Typ23, 4),
-        fields::value(s, Layout::Typ23, 5),
-        fields::value(s, Layout::Typ23, 6),
-        fields::value(s, Layout::Typ23, 7),
-        fields::value(s, Layout::Typ23, 8),
-        fields::value(s, Layout::Typ23, 9),
-        fields::value(s, Layout::Typ23, 10),
-        fields::value(s, Layout::Typ23, 11),
-        fields::value(s, Layout::Typ23, 12),
-        fields::value(s, Layout::Typ23, 13),
-        fields::value(s, Layout::Typ23, 14),
-        fields::value(s, Layout::Typ23, 15),
-        fields::value(s, Layout::Typ23, 16),
-        fields::value(s, Layout::Typ23, 17),
-        fields::value(s, Layout::Typ23, 18),
-        fields::value(s, Layout::Typ23, 19),
-        fields::value(s, Layout::Typ23, 20),
-        fields::value(s, Layout::Typ23, 21),
-    ]
-}
-
-// The end of a ticket in minutes: the day of a stamp, and the time of that day.
-fn end_of(stamp: u64, minutes: u64) -> u64
-    requires { ⌜ (stamp < 16384) × (minutes < 1440) ⌝ }
-    ensures { λ r. ⌜ r ≡ dayOf stamp * 1440 + minutes ⌝ }
-{
-    dates::day(stamp) * 1440 + minutes
-}
-
 // Copies the product of a ticket into the buffer, and reads the ticket.
 pub fn read_ticket(image: &[u8], entry: usize, buffer: &mut [u8]) -> TicketRead
     ensures { λ r. ⌜ r ≡ readTicket (now (image .entry)) entry (length (now (buffer .entry))) ⌝ }
@@ -603,12 +529,16 @@ pub fn read_ticket(image: &[u8], entry: usize, buffer: &mut [u8]) -> TicketRead
             copy_product(image, g, entry, found.sectors, buffer);
             let start = 4 + entry * g.size;
             let first = &image[start..];
+            let head = ticket::header_in(first);
+            let header = head.values;
+            let record = ticket::record_in(first);
+            let values = record.values;
             TicketRead {
                 number: 0,
                 entry: 0,
-                header: header_values(first),
-                values: ticket_values(first),
-                end: end_of(entry_value(image, g, entry, 6), found.minutes),
+                header: header,
+                values: values,
+                end: ticket::end(entry_value(image, g, entry, 6), found.minutes),
                 mark: found.mark,
                 sectors: found.sectors,
             }
@@ -649,5 +579,6 @@ pub fn rest<'a>(image: &[u8], entry: usize, buffer: &'a mut [u8]) -> &'a mut [u8
     let Filled::End(end) = d else {
         return &mut buffer[0..0];
     };
-    &mut buffer[29..end]
+    let from = ticket::rest();
+    &mut buffer[from..end]
 }

@@ -1,5 +1,5 @@
 -- `reads::chain_of` meets its contract: the walk tells the length and the mark. Assumes nothing.
-use mathlib.Core.Path.{_≡_, refl, sym, _∙_}
+use mathlib.Core.Path.{sym, _∙_}
 use Rattle.reads.specs.Entry.{chainedIn}
 use Rattle.reads.proofs.Known.{chained-end, chained-broken}
 use borrow.Author.Needs.{needs}

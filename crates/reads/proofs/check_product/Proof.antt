@@ -1,5 +1,4 @@
 -- `reads::check_product` meets its contract: each return is one of the ways to be no product, or the entry is not empty. Assumes nothing.
-use mathlib.Core.Path.{_≡_, refl}
 use native.Mathlib.Omega.{arith}
 use Rattle.reads.proofs.Known.{not-low, not-high}
 use borrow.Author.Needs.{needs}

@@ -1,5 +1,5 @@
 -- `reads::check_ticket` meets its contract: each check is answered as its definition says, and the first that fails gives the number. Assumes nothing.
-use mathlib.Core.Path.{_≡_, refl, sym, ap, ap₂, _∙_}
+use mathlib.Core.Path.{_≡_, sym, ap, ap₂, _∙_}
 use native.Mathlib.Omega.{arith}
 use Prim.Native.Nat.{ℕ, _*_}
 use mathlib.Core.Bool.{true}
@@ -15,7 +15,7 @@ use Rattle.reads.specs.Checks.{roomIn, formIn, extentIn, minutesIn}
 use Rattle.reads.specs.declared.Room.the-variants.{Fits}
 use Rattle.reads.specs.declared.Form.the-variants.{Ticket}
 use Rattle.reads.specs.declared.Extent.the-variants.{End}
-use Rattle.reads.proofs.Known.{known-of, there-few, sought-here, sought-missing}
+use Rattle.reads.proofs.Known.{known-of, sought-here, sought-missing}
 use Rattle.reads.proofs.Sectors.{size-is, product-top}
 use Rattle.reads.proofs.InOrder.{at-product, at-room, at-form, at-extent, extent-is, at-time, minutes-is, at-end}
 use borrow.Author.Needs.{needs}

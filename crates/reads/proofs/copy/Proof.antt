@@ -1,8 +1,7 @@
 -- `reads::copy` meets its contract: the loop keeps that the first i bytes are copied. Assumes nothing.
-use mathlib.Core.Path.{_≡_, refl, sym, ap, _∙_}
+use mathlib.Core.Path.{_≡_, refl, ap, _∙_}
 use native.Mathlib.Omega.{arith}
-use Prim.Native.Nat.{ℕ, _+_, _-_, _≤_, _<_}
-use mathlib.Core.List.{_++_}
+use Prim.Native.Nat.{_-_, _≤_}
 use lib.ListN.{length}
 use Rattle.reads.proofs.Copied.{copied, copy-more, copy-length, copy-whole}
 use Rattle.reads.proofs.copy.Statement.{statement}

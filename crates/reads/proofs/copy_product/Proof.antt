@@ -1,7 +1,7 @@
 -- `reads::copy_product` meets its contract: the loop keeps that the first k sectors are copied and that i is the next one. Assumes nothing.
-use mathlib.Core.Path.{_≡_, refl, sym, ap, _∙_}
+use mathlib.Core.Path.{_≡_, sym, ap, _∙_}
 use native.Mathlib.Omega.{arith}
-use Prim.Native.Nat.{ℕ, _+_, _-_, _*_, _≤_, _<_}
+use Prim.Native.Nat.{_+_, _-_, _*_, _≤_, _<_}
 use lib.ListN.{length, getD}
 use Rattle.chains.specs.Chain.{Sector}
 use Rattle.image.specs.Image.{S, element, sectors}

@@ -1,5 +1,4 @@
 -- `reads::element_of` meets its contract: the packed element is SCT(i). Assumes nothing.
-use mathlib.Core.Path.{_≡_, refl}
 use native.Mathlib.Omega.{arith}
 use Rattle.bits.proofs.Laws.{field-below}
 use Rattle.image.specs.Image.{element}

@@ -1,7 +1,6 @@
 -- `reads::entry_value` meets its contract: the entry stands where the shape says. Assumes nothing.
-use mathlib.Core.Path.{_≡_, refl, sym, ap, _∙_}
 use native.Mathlib.Omega.{arith}
-use Prim.Native.Nat.{ℕ, _+_, _-_, _*_}
+use Prim.Native.Nat.{_+_, _-_, _*_}
 use Rattle.reads.proofs.Places.{entry-at, entry-is, from-is, from-length}
 use borrow.Author.Needs.{needs}
 use Rattle.reads.proofs.entry_value.Statement.{statement}

@@ -1,5 +1,5 @@
 -- `reads::fill` meets its contract: the buffer is filled only where every check has passed. Assumes nothing.
-use mathlib.Core.Path.{_≡_, refl, sym, ap, ap₂, _∙_}
+use mathlib.Core.Path.{refl, sym, _∙_}
 use native.Mathlib.Omega.{arith}
 use lib.ListN.{length}
 use Rattle.reads.specs.Ticket.{bufferAfter}

@@ -1,9 +1,6 @@
 -- `reads::find` meets its contract: the image is judged first, and then the entry. Assumes nothing.
-use mathlib.Core.Path.{_≡_, refl, sym, ap, _∙_}
-use mathlib.Core.Bool.{Bool, true, false}
-use Rattle.image.specs.Image.{isProduct}
+use mathlib.Core.Path.{sym, _∙_}
 use Rattle.image.proofs.Accepted.{accepted-open}
-use Rattle.reads.specs.declared.Sought.the-variants.{Here, Missing}
 use Rattle.reads.proofs.Known.{find-shut, find-missing, find-there, sought-here, sought-missing}
 use borrow.Author.Needs.{needs}
 use Rattle.reads.proofs.find.Statement.{statement}

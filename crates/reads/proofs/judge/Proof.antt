@@ -1,5 +1,5 @@
 -- `reads::judge` meets its contract: the image is judged first, and then the ticket. Assumes nothing.
-use mathlib.Core.Path.{_≡_, refl, sym, ap, _∙_}
+use mathlib.Core.Path.{sym, _∙_}
 use Rattle.image.proofs.Accepted.{refused-shut}
 use Rattle.reads.proofs.InOrder.{judged-shut}
 use borrow.Author.Needs.{needs}

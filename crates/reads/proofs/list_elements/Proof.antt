@@ -1,9 +1,8 @@
 -- `reads::list_elements` meets its contract: the loop keeps that the first k elements are listed, and all else is as it was. Assumes nothing.
 use mathlib.Core.Path.{_≡_, refl, sym, ap, _∙_}
-use Prim.Native.Nat.{ℕ, _+_, _-_, _≤_, _<_}
+use Prim.Native.Nat.{_-_, _≤_}
 use native.Mathlib.Omega.{arith}
 use lib.ListN.{length, getD}
-use Rattle.chains.specs.Chain.{Sector}
 use Rattle.image.specs.Image.{S, element}
 use Rattle.reads.specs.Card.{elements}
 use Rattle.reads.proofs.Copied.{copied, copy-more, copy-length, copy-end, length-counted, getD-counted}

@@ -1,7 +1,6 @@
 -- `reads::product_value` meets its contract: a record within 256 bits lies in the first sector. Assumes nothing.
-use mathlib.Core.Path.{_≡_, refl, sym, ap, _∙_}
 use native.Mathlib.Omega.{arith}
-use Prim.Native.Nat.{ℕ, _+_, _-_, _*_}
+use Prim.Native.Nat.{_+_, _-_, _*_}
 use Rattle.reads.proofs.Places.{from-is, from-length}
 use Rattle.reads.proofs.Sectors.{start-in, start-is, value-first}
 use borrow.Author.Needs.{needs}

@@ -1,5 +1,5 @@
 -- `reads::read_chain` meets its contract: the sectors are listed over zeros. Assumes nothing.
-use mathlib.Core.Path.{_≡_, refl, sym, ap, _∙_}
+use mathlib.Core.Path.{refl, sym, _∙_}
 use native.Mathlib.Omega.{arith}
 use Rattle.rules.specs.Claim.{first}
 use Rattle.reads.specs.Entry.{readChain, chainedIn}

@@ -1,5 +1,5 @@
 -- `reads::read_directory` meets its contract: the two parts of the directory stand where its shape says. Assumes nothing.
-use mathlib.Core.Path.{_≡_, refl, sym, _∙_}
+use mathlib.Core.Path.{sym, _∙_}
 use native.Mathlib.Omega.{arith}
 use Rattle.image.proofs.Accepted.{Open, accepted-open, refused-shut}
 use Rattle.reads.specs.Card.{readDirectory}

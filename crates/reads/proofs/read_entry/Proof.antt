@@ -1,8 +1,7 @@
 -- `reads::read_entry` meets its contract: the entry stands where the shape says. Assumes nothing.
-use mathlib.Core.Path.{_≡_, refl, sym, _∙_}
+use mathlib.Core.Path.{sym, _∙_}
 use native.Mathlib.Omega.{arith}
-use Prim.Native.Nat.{ℕ, _+_, _*_, _-_, _≤_}
-use lib.ListN.{length, length-drop}
+use Prim.Native.Nat.{_+_, _*_, _-_}
 use Rattle.rules.specs.Claim.{first}
 use Rattle.reads.specs.Entry.{readEntry}
 use Rattle.reads.proofs.Asked.{asked-there}

@@ -1,17 +1,14 @@
-use mathlib.Core.Path.{_≡_, sym, _∙_}
+-- `reads::read_shell` meets its contract: the shell stands from byte 4 on. Assumes nothing.
+use mathlib.Core.Path.{sym, _∙_}
 use native.Mathlib.Omega.{arith}
-use Rattle.image.proofs.Accepted.{Open, accepted-open, refused-shut}
 use Rattle.image.specs.Image.{shellValues}
+use Rattle.image.proofs.Accepted.{Open, accepted-open, refused-shut}
 use Rattle.reads.specs.Card.{readShell}
 use Rattle.reads.proofs.Given.{values-refused, none-named}
-use Rattle.reads.proofs.Places.{from-is}
+use Rattle.reads.proofs.Places.{from-is, from-length}
 use borrow.Author.Needs.{needs}
 use Rattle.reads.proofs.read_shell.Statement.{statement}
 use Rattle.reads.proofs.read_shell.Tie as tie
-use Rattle.reads.proofs.read_shell.Reads as reads
-use Rattle.reads.proofs.read_shell.Lts as lts
-use Rattle.image.proofs.check.Reads as check-reads
-use Rattle.reads.proofs.shell_values.Reads as shell-values-reads
 
 -- the image is accepted
 opened : (c : tie.After-enum-told) → Open (c .before .before .before .before .args .image .now) (c .enum-told .given .0 .0)
@@ -23,31 +20,29 @@ check-requires c κs = search needs
 enum-told : tie.Need-enum-told
 enum-told c = search needs
 
-sub-shell-values : tie.Need-sub-shell-values
-sub-shell-values c = omega (arith, opened c .shape .in-bounds)
+sub-shell-in : tie.Need-sub-shell-in
+sub-shell-in c = omega (arith, opened c .shape .in-bounds)
 
-part-shell-values-start : tie.Need-part-shell-values-start
-part-shell-values-start c = omega (arith, opened c .shape .in-bounds)
+part-shell-in-start : tie.Need-part-shell-in-start
+part-shell-in-start c = omega (arith, opened c .shape .in-bounds)
 
-part-shell-values-end : tie.Need-part-shell-values-end
-part-shell-values-end c = search needs
+part-shell-in-end : tie.Need-part-shell-in-end
+part-shell-in-end c = search needs
 
-shell-values-requires : tie.Need-shell-values-requires
-shell-values-requires c κs = omega (arith, opened (c .before) .shape .in-bounds)
+shell-in-requires : tie.Need-shell-in-requires
+shell-in-requires c κs = rw (from-length (c .before .before .before .before .before .args .image .now) 4) (omega (arith, opened (c .before) .shape .in-bounds))
 
 enum-known-n : tie.Need-enum-known-n
 enum-known-n c = search needs
 
 returns : tie.Need-returns
 unfolding readShell shellValues
-returns c =
-    let o = opened (c .before .before) in
-    rw (o .number-zero, none-named _ (o .number-zero), c .shell-values .ensures, from-is _ 4)
+returns c = let o = opened (c .before .before .before) in
+    rw (o .number-zero, none-named _ (o .number-zero), c .before .shell-in .ensures, from-is _ 4)
 
 returns-2 : tie.Need-returns-2
 unfolding readShell
-returns-2 c =
-    let s = refused-shut _ _ _ (sym (c .before .before .before .check .ensures) ∙ c .before .n .given .1) in
+returns-2 c = let s = refused-shut _ _ _ (sym (c .before .before .before .check .ensures) ∙ c .before .n .given .1) in
     rw (s .number-is, s .entry-is, values-refused _ 16 _ (s .some))
 
 pub read-shell-spec : {M : Type 1} → statement M
@@ -56,10 +51,10 @@ read-shell-spec =
     (tie.spec
     check-requires
     enum-told
-    sub-shell-values
-    part-shell-values-start
-    part-shell-values-end
-    shell-values-requires
+    sub-shell-in
+    part-shell-in-start
+    part-shell-in-end
+    shell-in-requires
     enum-known-n
     returns
     returns-2)

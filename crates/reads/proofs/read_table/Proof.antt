@@ -1,5 +1,5 @@
 -- `reads::read_table` meets its contract: the elements are listed over zeros. Assumes nothing.
-use mathlib.Core.Path.{_≡_, refl, sym, ap, _∙_}
+use mathlib.Core.Path.{sym, _∙_}
 use native.Mathlib.Omega.{arith}
 use Rattle.image.proofs.Accepted.{Open, accepted-open, refused-shut}
 use Rattle.reads.specs.Card.{readTable}

@@ -1,11 +1,13 @@
 -- `reads::read_ticket` meets its contract: the buffer is filled only where every check has passed, and what is read is read of the first sector. Assumes nothing.
-use mathlib.Core.Path.{_≡_, refl, sym, ap, ap₂, _∙_}
+use mathlib.Core.Path.{refl, sym, ap, ap₂, _∙_}
 use native.Mathlib.Omega.{arith}
-use Prim.Native.Nat.{ℕ, _+_, _-_, _*_}
+use Prim.Native.Nat.{_+_, _-_, _*_}
 use lib.ListN.{length}
 use Rattle.bits.proofs.Laws.{field-below}
 use Rattle.fields.specs.declared.Layout.the-variants.{Header, Typ23}
-use Rattle.dates.specs.Stamps.{dayOf}
+use Rattle.ticket.specs.declared.Header as T
+use Rattle.ticket.specs.declared.Record.{Record}
+use Rattle.ticket.specs.Ticket.{endOf}
 use Rattle.reads.specs.Ticket.{bufferAfter}
 use Rattle.reads.specs.declared.Found.{Found}
 use Rattle.reads.proofs.Given.{lent-refused}
@@ -64,29 +66,29 @@ part-first-start c =
 part-first-end : tie.Need-part-first-end
 part-first-end c = search needs
 
-header-values-requires : tie.Need-header-values-requires
-header-values-requires c κs =
+header-in-requires : tie.Need-header-in-requires
+header-in-requires c κs =
     let k = taking (c .before .before .before .before .before .before .before .before) in
     let s = found-shape _ _ _ k in
     rw (from-length (c .before .before .before .before .before .before .before .before .before .before .before .before .before .args .image .now) (4 + c .before .before .before .before .before .before .before .before .before .before .before .before .before .args .entry * c .before .before .before .before .before .before .before .before .found .given .0 .0 .shape .size)) (omega (arith, start-in s (k .known .there)))
 
-ticket-values-requires : tie.Need-ticket-values-requires
-ticket-values-requires c κs =
-    let k = taking (c .before .before .before .before .before .before .before .before .before) in
+record-in-requires : tie.Need-record-in-requires
+record-in-requires c κs =
+    let k = taking (c .before .before .before .before .before .before .before .before .before .before) in
     let s = found-shape _ _ _ k in
-    rw (from-length (c .before .before .before .before .before .before .before .before .before .before .before .before .before .before .args .image .now) (4 + c .before .before .before .before .before .before .before .before .before .before .before .before .before .before .args .entry * c .before .before .before .before .before .before .before .before .before .found .given .0 .0 .shape .size)) (omega (arith, start-in s (k .known .there)))
+    rw (from-length (c .before .before .before .before .before .before .before .before .before .before .before .before .before .before .before .args .image .now) (4 + c .before .before .before .before .before .before .before .before .before .before .before .before .before .before .before .args .entry * c .before .before .before .before .before .before .before .before .before .before .found .given .0 .0 .shape .size)) (omega (arith, start-in s (k .known .there)))
 
 entry-value-requires : tie.Need-entry-value-requires
 entry-value-requires c κs =
-    let k = taking (c .before .before .before .before .before .before .before .before .before .before) in
+    let k = taking (c .before .before .before .before .before .before .before .before .before .before .before .before) in
     let s = found-shape _ _ _ k in
     let v = k .known .there .product in
     (s, (v .low, omega arith, omega arith))
 
-end-of-requires : tie.Need-end-of-requires
-end-of-requires c κs =
-    let k = taking (c .before .before .before .before .before .before .before .before .before .before .before) in
-    (rw (c .entry-value .ensures) (field-below _ 26 14 14 (omega arith)), rw (k .found-is) (k .in-day))
+end-requires : tie.Need-end-requires
+end-requires c κs =
+    let k = taking (c .before .before .before .before .before .before .before .before .before .before .before .before .before) in
+    (rw (c .entry-value .ensures) (field-below _ 26 14 32 (omega arith)), rw (k .found-is) (omega (arith, k .in-day)))
 
 enum-known-n : tie.Need-enum-known-n
 enum-known-n c = search needs
@@ -96,10 +98,10 @@ same-length c = search needs
 
 returns : tie.Need-returns
 unfolding bufferAfter
-returns c = let k = taking (c .before .before .before .before .before .before .before .before .before .before .before .before) in
+returns c = let k = taking (c .before .before .before .before .before .before .before .before .before .before .before .before .before .before) in
     let s = found-shape _ _ _ k in
     let t = k .known .there in
-    (read-taken _ _ _ k (c .before .before .before .header-values .ensures ∙ first-fields s t Header (omega arith)) (c .before .before .ticket-values .ensures ∙ first-fields s t Typ23 (omega arith)) (c .end-of .ensures ∙ ap₂ (λ (d m : ℕ). dayOf d * 1440 + m) (c .before .entry-value .ensures) (ap (λ (f : Found). f .minutes) (k .found-is))), rw (k .number-zero) (c .before .before .before .before .before .before .before .before .copy-product .ensures))
+    (read-taken _ _ _ k (ap (λ (h : T.Header). h .values) (c .before .before .before .before .before .header-in .ensures) ∙ first-fields s t Header (omega arith)) (ap (λ (r : Record). r .values) (c .before .before .before .record-in .ensures) ∙ first-fields s t Typ23 (omega arith)) (c .end .ensures ∙ ap₂ endOf (c .before .entry-value .ensures) (ap (λ (f : Found). f .minutes) (k .found-is))), rw (k .number-zero) (c .before .before .before .before .before .before .before .before .before .before .copy-product .ensures))
 
 returns-2 : tie.Need-returns-2
 unfolding bufferAfter
@@ -118,10 +120,10 @@ read-ticket-spec =
     sub-first
     part-first-start
     part-first-end
-    header-values-requires
-    ticket-values-requires
+    header-in-requires
+    record-in-requires
     entry-value-requires
-    end-of-requires
+    end-requires
     enum-known-n
     same-length
     returns

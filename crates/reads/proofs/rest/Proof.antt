@@ -1,5 +1,5 @@
 -- `reads::rest` meets its contract: what `fill` answered tells the end, and what the buffer holds. Assumes nothing.
-use mathlib.Core.Path.{_≡_, refl, sym, ap, _∙_}
+use mathlib.Core.Path.{refl, sym, ap, _∙_}
 use native.Mathlib.Omega.{arith}
 use lib.ListN.{length}
 use Rattle.reads.proofs.TwoCalls.{Ending, fill-ends, fill-barred, rest-none, rest-nowhere, rest-from, after-length, rest-part}
@@ -34,23 +34,26 @@ returns c =
     let s = fill-barred _ _ _ (sym (c .before .before .before .before .before .fill .ensures .0) ∙ c .before .enum-told .given .1) in
     rw (rest-none _ _ _ s, rest-nowhere _ _ _ s) (refl, (refl, refl))
 
+rest-requires : tie.Need-rest-requires
+rest-requires c κs = search needs
+
 sub-result-2 : tie.Need-sub-result-2
-sub-result-2 c = omega (arith, ending (c .before) .least)
+sub-result-2 c = omega (arith, c .rest .ensures, ending (c .before .before) .least)
 
 part-buffer-start-2 : tie.Need-part-buffer-start-2
-part-buffer-start-2 c = omega (arith, ending (c .before) .least)
+part-buffer-start-2 c = omega (arith, c .rest .ensures, ending (c .before .before) .least)
 
 part-buffer-end-2 : tie.Need-part-buffer-end-2
 part-buffer-end-2 c =
-    let k = ending (c .before) in
-    let a = c .before .before .before .before .before .before .before .before .before .args in
-    omega (arith, k .in-product, k .in-room, ap length (c .before .before .before .before .before .fill .ensures .1), after-length (a .image .now) (a .entry) (a .buffer .now) k)
+    let k = ending (c .before .before) in
+    let a = c .before .before .before .before .before .before .before .before .before .before .args in
+    omega (arith, k .in-product, k .in-room, ap length (c .before .before .before .before .before .before .fill .ensures .1), after-length (a .image .now) (a .entry) (a .buffer .now) k)
 
 returns-2 : tie.Need-returns-2
 returns-2 c =
-    let k = ending (c .before .before) in
-    let a = c .before .before .before .before .before .before .before .before .before .before .args in
-    (rw (c .before .before .before .before .before .before .fill .ensures .1) (rest-part (a .image .now) (a .entry) (a .buffer .now) k), (refl, rw (rest-from _ _ _ k)))
+    let k = ending (c .before .before .before) in
+    let a = c .before .before .before .before .before .before .before .before .before .before .before .args in
+    rw (c .before .rest .ensures) (rw (c .before .before .before .before .before .before .before .fill .ensures .1) (rest-part (a .image .now) (a .entry) (a .buffer .now) k), (refl, rw (rest-from _ _ _ k)))
 
 pub rest-spec : {M : Type 1} → statement M
 rest-spec =
@@ -63,6 +66,7 @@ rest-spec =
     part-buffer-start
     part-buffer-end
     returns
+    rest-requires
     sub-result-2
     part-buffer-start-2
     part-buffer-end-2
