@@ -1,15 +1,15 @@
 -- A chain is broken, that is, there is none, exactly where the elements lead to 0, to a number above S - 1, or back to a sector passed before.
 -- Assumes nothing.
-use mathlib.Core.Path.{_≡_, refl, sym, ap, subst, _∙_}
+use mathlib.Core.Path.{_≡_, refl, sym, subst}
 use mathlib.Core.Logic.{_≢_, _↔_, _⊎_, inl, inr, ⊎-elim}
 use mathlib.Core.List.{List, [], _∷_}
-use Prim.Native.Nat.{ℕ, zero, suc, _+_, _-_, _≤_, _<_}
+use Prim.Native.Nat.{ℕ, zero, suc, _+_, _-_, _<_}
 use native.Mathlib.Omega.{arith}
 use native.Mathlib.Decide.{ℕ-discrete, decLt}
 use lib.ListN.{length}
-use Rattle.chains.specs.Chain.{Sector, Ends, fresh, used, blocked, Names, Leads, last, next, In, Distinct, Chain, NoChain, Link}
+use Rattle.chains.specs.Chain.{Sector, Ends, fresh, used, blocked, Names, Leads, last, next, In, Distinct, NoChain, Link}
 use Rattle.chains.specs.Chain.{Breaks, zero-met, above-met, comes-back, goes-on}
-use Rattle.chains.proofs.Laws.{View, v-end, v-to, v-bad, view, ends-or-names, leads-sectors, leads-distinct, rest, in-or-not}
+use Rattle.chains.proofs.Laws.{View, v-end, v-to, v-bad, view, ends-or-names, leads-distinct, rest, in-or-not}
 use Rattle.chains.proofs.Distinct.{few}
 
 module _ (f : ℕ → ℕ) (S : ℕ) where

@@ -2,7 +2,7 @@
 -- Assumes nothing.
 use mathlib.Core.Path.{_≡_, sym, ap, _∙_}
 use mathlib.Core.Logic.{_≢_, ⊎-elim}
-use mathlib.Core.List.{List, [], _∷_}
+use mathlib.Core.List.{List}
 use Prim.Native.Nat.{ℕ}
 use Rattle.chains.specs.Chain.{Sector, Ends, Leads, last, In, Chain, lastOf}
 use Rattle.chains.proofs.Laws.{leads-unique, leads-sectors, rest, chain-apart, chain-marked, in-or-not}

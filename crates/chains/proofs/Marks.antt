@@ -1,15 +1,13 @@
 -- A mark stands in the last sector's element alone, so that it alters the mark of the chains that end there and nothing else; where chains
 -- share a sector, as in document 01's table 33 F0, it alters the other's mark too. Assumes nothing.
-use mathlib.Core.Path.{_≡_, refl, sym, ap, _∙_}
-use mathlib.Core.Logic.{_≢_, _↔_}
+use mathlib.Core.Path.{_≡_, refl}
+use mathlib.Core.Logic.{_≢_}
 use mathlib.Core.List.{List, [], _∷_}
-use Prim.Native.Nat.{ℕ, _-_}
-use native.Mathlib.Omega.{arith}
-use lib.Dec.{eqb}
+use Prim.Native.Nat.{ℕ}
 use lib.ListN.{replicate}
 use borrow.Author.Tests.{eq-eqb, ne-eqb}
 use Rattle.bits.specs.Bits.{digit, bit, number, field}
-use Rattle.chains.specs.Chain.{Sector, Ends, In, Common, Chain, NoChain, lastOf, Walk, found, walk, link}
+use Rattle.chains.specs.Chain.{Sector, Ends, Common, Chain, NoChain, lastOf, found, walk, link}
 use Rattle.chains.specs.Packed.{packed}
 use Rattle.chains.specs.Products.{InNoChain}
 use Rattle.chains.specs.Marks.{replaced}

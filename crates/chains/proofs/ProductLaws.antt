@@ -1,17 +1,16 @@
 -- The tests of 10 and 11 say what the plain words say, because the walk finds exactly the chain; two chains share a sector exactly where
 -- they end in the same one, so that the last sectors alone decide; and chains that share none have at most S - 3 sectors together.
 -- Assumes nothing.
-use mathlib.Core.Path.{_≡_, refl, sym, ap, subst, _∙_}
+use mathlib.Core.Path.{_≡_, refl, sym, _∙_}
 use mathlib.Core.Logic.{_≢_, _↔_, _⊎_, inl, inr, ⊎-elim}
-use mathlib.Core.Bool.{Bool, true, false, _&&_, _||_, true≢false, false≢true}
-use mathlib.Core.List.{List, [], _∷_, _++_}
-use Prim.Native.Nat.{ℕ, zero, suc, _+_, _-_, _*_, _%_, _≤_, _<_}
+use mathlib.Core.Bool.{Bool, true, false, _&&_, _||_, false≢true}
+use mathlib.Core.List.{List, [], _∷_}
+use Prim.Native.Nat.{ℕ, zero, suc, _-_, _%_, _≤_, _<_}
 use native.Mathlib.Omega.{arith}
 use native.Mathlib.Decide.{decLt, ℕ-discrete}
 use lib.Dec.{eqb}
-use lib.ListN.{length, length-append}
 use borrow.Author.Tests.{eqb-true, eq-eqb, ne-eqb}
-use Rattle.chains.specs.Chain.{Sector, In, Common, Distinct, Chain, NoChain, lastOf, Walk, found, broken, walk}
+use Rattle.chains.specs.Chain.{Sector, In, Common, Chain, lastOf, Walk, found, broken, walk}
 use Rattle.chains.specs.Products.{Chained, Disjoint, Broken, Shares, chainAt, sectorsOf, isBroken, brokenAt, member, meet, some, sharesAt, when, lastIn, lastAt}
 use Rattle.chains.proofs.Laws.{found-chain, broken-none, common-last, chain-sectors, last-in}
 use Rattle.chains.specs.Packed.{lastLeft}

@@ -1,16 +1,12 @@
 -- Ψ is the one number with S ≤ 2^Ψ < 2S (document 01; 004, 5.1.5.1). Assumes nothing.
 use mathlib.Core.Path.{_≡_, refl}
-use Prim.Native.Nat.{ℕ, suc, _+_, _*_, _-_, _^_, _≤_, _<_}
+use Prim.Native.Nat.{ℕ, suc, _*_, _-_, _^_, _≤_, _<_}
 use native.Mathlib.Nat.{pow-suc}
 use native.Mathlib.Omega.{arith}
 use native.Mathlib.Decide.{decLt}
 use lib.Count.{leadingZeros, leading-top}
 use lib.Pow.{pow-mono}
-use Rattle.chains.specs.Psi.{Ψ, tableBytes}
-
-pub record IsPsi (s p : ℕ) : Type 0 where
-  pub enough : s ≤ 2 ^ p
-  pub least : 2 ^ p < 2 * s
+use Rattle.chains.specs.Psi.{IsPsi, Ψ, tableBytes}
 
 pub psi-is : (s : ℕ) → 2 ≤ s → s ≤ 255 → IsPsi s (Ψ s)
 unfolding Ψ

@@ -1,13 +1,13 @@
 -- Chains that share no sector have at most S - 3 sectors together: joined, their sectors are distinct numbers from 1 to S - 3.
 -- Assumes nothing.
-use mathlib.Core.Path.{_≡_, refl, sym, subst}
-use mathlib.Core.Logic.{_≢_, _⊎_, inl, inr, ⊎-elim}
+use mathlib.Core.Path.{_≡_, refl}
+use mathlib.Core.Logic.{_⊎_, inl, inr, ⊎-elim}
 use mathlib.Core.Bool.{Bool, true, false}
 use mathlib.Core.List.{List, [], _∷_, _++_}
-use Prim.Native.Nat.{ℕ, zero, suc, _-_, _≤_, _<_}
+use Prim.Native.Nat.{ℕ, zero, suc, _-_, _≤_}
 use native.Mathlib.Omega.{arith}
 use lib.ListN.{length}
-use Rattle.chains.specs.Chain.{Sector, In, Common, Distinct, Chain, Walk, found, broken, walk}
+use Rattle.chains.specs.Chain.{In, Common, Distinct, Chain, Walk, found, broken, walk}
 use Rattle.chains.specs.Products.{Disjoint, sectorsOf, chainAt, ifProduct, together}
 use Rattle.chains.proofs.Laws.{found-chain, chain-sectors}
 use Rattle.chains.proofs.Distinct.{few}

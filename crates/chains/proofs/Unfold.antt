@@ -3,7 +3,7 @@
 use mathlib.Core.Path.{_≡_, refl, sym, ap, _∙_}
 use mathlib.Core.Logic.{_≢_}
 use mathlib.Core.Bool.{Bool, true, false, _&&_, _||_, not, true≢false, false≢true}
-use mathlib.Core.List.{List, [], _∷_}
+use mathlib.Core.List.{List}
 use Prim.Native.Nat.{ℕ, zero, suc, _+_, _-_, _*_, _/_, _%_, _≤_, _<_}
 use native.Mathlib.Omega.{arith}
 use native.Mathlib.Numerals.{sub-one}
@@ -13,7 +13,6 @@ use borrow.Author.Tests.{eq-eqb, ne-eqb, le-leb, lt-leb, eqb-true, eqb-false, lt
 use lib.ListN.{length}
 use Rattle.chains.specs.Chain.{Sector, Ends, fresh, used, blocked, Leads, lastOf, Walk, found, broken, after, onLink, walk, link, Link, end, to, bad}
 use Rattle.chains.specs.Packed.{told, lastLeft, markSaid}
-use Rattle.chains.specs.declared.Walked.{Walked}
 use Rattle.chains.specs.declared.Walked.the-variants as W
 use Rattle.chains.proofs.Laws.{walk-leads, walk-short, last-cons, last-in, last-ends, leads-sectors}
 

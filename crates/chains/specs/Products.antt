@@ -1,6 +1,5 @@
 -- The chains of a card's products: `P j` says that entry j is a product, `p j` is the test of it, and its chain starts at sector j.
 -- Document 01, "Sector chains" and the rows 10 and 11. Assumes nothing.
-use mathlib.Core.Path.{_≡_}
 use mathlib.Core.Logic.{_≢_}
 use mathlib.Core.Bool.{Bool, true, false, _&&_, _||_}
 use mathlib.Core.List.{List, [], _∷_, _++_}

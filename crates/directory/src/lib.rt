@@ -11,10 +11,12 @@ ghost use Rattle.directory.specs.Records.{entryBytes, entryOf, headBytes
 ghost use Rattle.directory.specs.Table.{places, encodeNumber, encodeIn, decodeNumber, decodeOf};
 
 // EF, OID, TYP, PTYP, VGP, IINL, EXP.
+#[repr(C)]
 pub struct Entry {
     pub values: [u64; 7],
 }
 
+#[repr(C)]
 pub struct EntryBytes {
     pub number: usize,
     pub entry: usize,
@@ -22,10 +24,12 @@ pub struct EntryBytes {
 }
 
 // DIRLength, DIRBitMap, DIRFormatRevision.
+#[repr(C)]
 pub struct Head {
     pub values: [u64; 3],
 }
 
+#[repr(C)]
 pub struct HeadBytes {
     pub number: usize,
     pub entry: usize,
@@ -33,10 +37,12 @@ pub struct HeadBytes {
 }
 
 // DIRS#, KID, INS#, ISAMID.
+#[repr(C)]
 pub struct Tail {
     pub values: [u64; 4],
 }
 
+#[repr(C)]
 pub struct TailBytes {
     pub number: usize,
     pub entry: usize,
@@ -186,6 +192,7 @@ pub fn encode_table(s: u64, elements: &[u64], out: &mut [u8]) -> Written
 }
 
 // What decoding a table answers: how many elements, and zeros after them.
+#[repr(C)]
 pub struct Elements {
     pub number: usize,
     pub entry: usize,

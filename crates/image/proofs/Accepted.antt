@@ -1,16 +1,15 @@
 -- What an accepted image is worth to the calls that follow a check: it obeys, its numbers are in bounds, and the shape is its own.
 -- Assumes nothing.
-use mathlib.Core.Path.{_≡_, refl, sym, subst, _∙_}
+use mathlib.Core.Path.{_≡_, refl, _∙_}
 use mathlib.Core.List.{List}
 use Prim.Native.Nat.{ℕ, zero, suc}
 use native.Mathlib.Omega.{arith}
 use Rattle.image.specs.Bounds.{Bounds}
 use Rattle.image.specs.Obeys.{Obeys}
-use Rattle.image.specs.Rules.{Verdict, verdict}
+use Rattle.image.specs.Rules.{verdict}
 use Rattle.image.specs.Shape.{shapeOf, Shaped}
 use Rattle.image.specs.Answer.{answer, checkOf}
 use Rattle.image.specs.declared.Shape.{Shape}
-use Rattle.image.specs.declared.Checked.{Checked}
 use Rattle.image.specs.declared.Checked.the-variants.{Accepted, Refused}
 use Rattle.image.proofs.Exact as exact
 use Rattle.image.proofs.Exact.{accepts}

@@ -1,18 +1,15 @@
 -- The answer of a check is its verdict: the number, the entry, and the shape where it accepts; and an answer is known by its number, entry
 -- and values. Assumes nothing.
 use mathlib.Core.Path.{_≡_, refl}
-use mathlib.Core.List.{List, [], _∷_}
+use mathlib.Core.List.{List}
 use Prim.Native.Nat.{ℕ, zero, suc}
-use native.Mathlib.Omega.{arith}
 use Rattle.rules.specs.Claim.{first}
 use Rattle.rules.specs.Lowest.{lowest}
 use Rattle.image.specs.Image.{e#}
 use Rattle.image.specs.Rules.{rules, brokenAt, sharesAt, judged, verdict}
 use Rattle.image.specs.Shape.{shapeOf}
-use Rattle.image.specs.Answer.{numberOf, entryOf, valuesOf, answer, checkOf}
-use Rattle.image.specs.declared.Shape.{Shape}
+use Rattle.image.specs.Answer.{numberOf, entryOf, answer, checkOf}
 use Rattle.image.specs.declared.Checked.{Checked}
-use Rattle.image.specs.declared.Checked.the-variants.{Accepted, Refused}
 
 -- the number and entry of the check's answer are the verdict's
 pub check-says : (c : List ℕ) → (numberOf (checkOf c) ≡ verdict c .number) × (entryOf (checkOf c) ≡ verdict c .entry)

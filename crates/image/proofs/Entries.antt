@@ -1,7 +1,7 @@
 -- The laws of products at an image's entries: what the number that the walk gives tells of entry j. Assumes nothing.
 use mathlib.Core.Path.{_≡_}
 use mathlib.Core.Logic.{_≢_}
-use mathlib.Core.Bool.{Bool, true, false}
+use mathlib.Core.Bool.{true, false}
 use mathlib.Core.List.{List}
 use Prim.Native.Nat.{ℕ, _-_, _%_, _≤_}
 use lib.Dec.{eqb}

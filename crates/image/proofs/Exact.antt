@@ -1,9 +1,9 @@
 -- The verdict is exact: it gives number n with entry e if and only if document 01 says so, and it accepts if and only if the image obeys.
 -- Assumes nothing.
-use mathlib.Core.Path.{_≡_, refl, sym, subst, _∙_}
+use mathlib.Core.Path.{_≡_, refl, subst}
 use mathlib.Core.Logic.{_↔_, _⊎_, inl, inr}
-use mathlib.Core.Bool.{Bool, true, false, _&&_, not}
-use mathlib.Core.List.{List, [], _∷_, _++_}
+use mathlib.Core.Bool.{Bool, true, _&&_, not}
+use mathlib.Core.List.{List, [], _∷_}
 use Prim.Native.Nat.{ℕ, zero, suc, _+_, _-_, _*_, _≤_, _<_}
 use native.Mathlib.Omega.{arith}
 use lib.Dec.{eqb, leb}
@@ -20,7 +20,7 @@ use Rattle.rules.proofs.ClaimLaws.{and-true, Found, none, one, kept-fails, fail
 use Rattle.rules.specs.Lowest.{lowest}
 use Rattle.rules.proofs.LowestLaws.{Found-lowest, nowhere, somewhere, lowest-is}
 use Rattle.image.specs.Image.{shellPad, tablePad, dataset, S, e#, SCTL, entryAt, tableAt, isProduct, element, chain, sectors}
-use Rattle.image.specs.Rules.{headRules, sizeRules, rules, brokenAt, sharesAt, Verdict, judged, verdict}
+use Rattle.image.specs.Rules.{rules, brokenAt, sharesAt, judged, verdict}
 use Rattle.image.specs.Bounds.{Bounds}
 use Rattle.image.specs.Obeys as O
 use Rattle.image.specs.Obeys.{IsProduct, Broken, Shares, Zeros, Obeys, Lowest, Says, accepted, refused, shared}
@@ -96,7 +96,7 @@ pub obeys-bounds : (c : List ℕ) → Obeys c → Bounds c
 unfolding dataset
 obeys-bounds c o =
     bounds c (o .head, (o .length-stated, (o .version-one, (o .copy-in-force, (o .shell-there, tt)))))
-    (o .full-shell, (o .dataset-least, (o .sectors-least, (o .size-least, (o .entries, (o .table-bytes, (o .directory-fits, (o .dataset-fits, (o .whole, tt)))))))))
+    (o .bit-map-zero, (o .dataset-least, (o .sectors-least, (o .size-least, (o .entries, (o .table-bytes, (o .directory-fits, (o .dataset-fits, (o .whole, tt)))))))))
 
 -- the paddings are zero exactly where each of their bits is
 module _ (c : List ℕ) (b : Bounds c) where
@@ -126,7 +126,7 @@ kept-obeys c k b s =
       version-one = k .1 .1 .0;
       copy-in-force = k .1 .1 .1 .0;
       shell-there = k .1 .1 .1 .1 .0;
-      full-shell = k5 .0;
+      bit-map-zero = k5 .0;
       dataset-least = k5 .1 .0;
       sectors-least = k5 .1 .1 .0;
       size-least = k5 .1 .1 .1 .0;
@@ -149,7 +149,7 @@ pub obeys-kept : (c : List ℕ) → Obeys c → Kept (rules c)
 unfolding rules dataset
 obeys-kept c o =
     let g = obeys-bounds c o in
-    (o .head, (o .length-stated, (o .version-one, (o .copy-in-force, (o .shell-there, (o .full-shell, (o .dataset-least, (o .sectors-least, (o .size-least, (o .entries, (o .table-bytes, (o .directory-fits, (o .dataset-fits, (o .whole, (o .checksum, (o .iin, (o .issn, (o .chd, (shell-zeros c g .1 (o .shell-padding), (table-zeros c g .1 (o .table-padding), tt))))))))))))))))))))
+    (o .head, (o .length-stated, (o .version-one, (o .copy-in-force, (o .shell-there, (o .bit-map-zero, (o .dataset-least, (o .sectors-least, (o .size-least, (o .entries, (o .table-bytes, (o .directory-fits, (o .dataset-fits, (o .whole, (o .checksum, (o .iin, (o .issn, (o .chd, (shell-zeros c g .1 (o .shell-padding), (table-zeros c g .1 (o .table-padding), tt))))))))))))))))))))
 
 -- no product of an acceptable image is broken, and none shares with a lower one
 module _ (c : List ℕ) (o : Obeys c) where
@@ -163,6 +163,15 @@ module _ (c : List ℕ) (o : Obeys c) where
 fits-kept : (c : List ℕ) → Kept (rules c) → e# c ≤ S c - 3
 unfolding rules
 fits-kept c k = k .1 .1 .1 .1 .1 .1 .1 .1 .1 .0 .1
+
+-- no rule's number is above k
+abbrev AtMost : ℕ → List Rule → Type 0
+AtMost k [] = Unit {0}
+AtMost k (r ∷ rs) = (r .number ≤ k) × AtMost k rs
+
+at-most : {k n : ℕ} {rs : List Rule} → Fails rs n → AtMost k rs → n ≤ k
+at-most (here b) h = h .0
+at-most (later m f) h = at-most f (h .1)
 
 -- ---- the verdict
 
@@ -249,3 +258,28 @@ module _ (c : List ℕ) where
   pub row : (n : ℕ) → 1 ≤ n → n ≤ 9 → (verdict c .number ≡ n) ↔ (KeptBelow n (rules c) × Unkept n (rules c))
   row n a b =
       ((λ q. fails-row n 0 (rules c) (rising c) .0 (row-says (subst (λ (m : ℕ). Says c m (verdict c .entry)) q says) a b)), λ p. exact n 0 .1 (refused (fails-row n 0 (rules c) (rising c) .1 p)) .0)
+
+  -- no rule of the list has a number above 9
+  listed : {n : ℕ} → Fails (rules c) n → n ≤ 9
+  unfolding rules
+  listed f = at-most {k = 9} f (omega arith)
+
+  broken-says : {n e : ℕ} → Says c n e → n ≡ 10 → Kept (rules c) × Lowest (Broken c) e
+  broken-says (accepted o) z = absurd (omega arith)
+  broken-says (refused f) z = absurd (omega (arith, listed f))
+  broken-says (O.broken r l) z = (r, l)
+  broken-says (shared r b l) z = absurd (omega arith)
+
+  shared-says : {n e : ℕ} → Says c n e → n ≡ 11 → Kept (rules c) × ((j : ℕ) → Broken c j → ⊥) × Lowest (Shares c) e
+  shared-says (accepted o) z = absurd (omega arith)
+  shared-says (refused f) z = absurd (omega (arith, listed f))
+  shared-says (O.broken r l) z = absurd (omega arith)
+  shared-says (shared r b l) z = (r, b, l)
+
+  -- number 10: every rule above is kept, and the entry is the lowest that is broken
+  pub row-10 : (j : ℕ) → ((verdict c .number ≡ 10) × (verdict c .entry ≡ j)) ↔ (Kept (rules c) × Lowest (Broken c) j)
+  row-10 j = ((λ q. broken-says (exact 10 j .0 q) refl), λ p. exact 10 j .1 (O.broken (p .0) (p .1)))
+
+  -- number 11: every rule above is kept, no chain is broken, and the entry is the lowest that shares with a lower one
+  pub row-11 : (k : ℕ) → ((verdict c .number ≡ 11) × (verdict c .entry ≡ k)) ↔ (Kept (rules c) × ((j : ℕ) → Broken c j → ⊥) × Lowest (Shares c) k)
+  row-11 k = ((λ q. shared-says (exact 11 k .0 q) refl), λ p. exact 11 k .1 (shared (p .0) (p .1) (p .2)))

@@ -1,4 +1,5 @@
 pub mod Padding
+pub mod ZeroBytes
 pub mod Bounded
 pub mod Shapes
 pub mod Answers

@@ -1,23 +1,23 @@
--- Document 01's bounds: the smallest image that can be accepted has 132 bytes, and the largest 60,439. And a broken chain in its words.
+-- Document 01's bounds: the smallest image that can be accepted has 132 bytes, and the largest 60,439; its chains have at most S - 3 sectors
+-- together. And a broken chain in its words.
 -- Assumes nothing.
-use mathlib.Core.Path.{_≡_, refl}
 use mathlib.Core.Logic.{_↔_}
 use mathlib.Core.List.{List, []}
-use Prim.Native.Nat.{ℕ, _+_, _-_, _*_, _^_, _≤_, _<_}
+use Prim.Native.Nat.{ℕ, _-_, _≤_, _<_}
 use native.Mathlib.Nat.{mul-le-mul}
 use native.Mathlib.Omega.{arith}
 use native.Mathlib.Decide.{decLt}
 use lib.ListN.{length}
 use lib.Pow.{pow-mono}
-use Rattle.chains.specs.Chain.{Breaks}
+use Rattle.chains.specs.Chain.{Distinct, Breaks}
+use Rattle.chains.specs.Products.{together}
+use Rattle.chains.proofs.Together.{together-once, together-few}
 use Rattle.chains.proofs.Broken.{broken-breaks}
-use Rattle.rules.specs.Claim.{Kept}
-use Rattle.image.specs.Image.{S, B, e#, SCTL, element}
+use Rattle.image.specs.Image.{S, e#, isProduct, element}
 use Rattle.chains.proofs.PsiLaws.{psi-is}
-use Rattle.image.specs.Rules.{headRules, sizeRules}
 use Rattle.image.specs.Bounds.{Bounds}
 use Rattle.image.specs.Obeys.{Obeys, IsProduct, Broken}
-use Rattle.image.proofs.Exact.{product-sector}
+use Rattle.image.proofs.Exact.{product-sector, tested, obeys-bounds}
 use Rattle.chains.specs.Psi.{Ψ}
 
 -- with 238 sectors the table alone is too long
@@ -38,6 +38,16 @@ largest c o b = omega (arith, o .whole, mul-le-mul {n₂ = 237} {m₂ = 255} (fe
 
 pub smallest : (c : List ℕ) → Obeys c → 132 ≤ length c
 smallest c o = omega (arith, o .whole, mul-le-mul {n₁ = 4} {m₁ = 32} (o .sectors-least) (o .size-least))
+
+-- the sectors of all chains of an acceptable image: at most S - 3 of them together, and none twice
+pub all-sectors : (c : List ℕ) → Obeys c → Distinct (together (isProduct c) (element c) (S c) (e# c)) × (length (together (isProduct c) (element c) (S c) (e# c)) ≤ S c - 3)
+all-sectors c o =
+    let t = tested c (o .entries .1) in
+    (together-once t (element c) (o .disjoint) (e# c), together-few t (element c) (o .disjoint) (e# c))
+
+-- nothing of another size can be accepted
+pub size-limits : (c : List ℕ) → Obeys c → (132 ≤ length c) × (length c ≤ 60439)
+size-limits c o = (smallest c o, largest c o (obeys-bounds c o))
 
 -- a chain is broken if it meets 0 or a number above S - 1, or returns to a sector it has passed
 pub broken-words : (c : List ℕ) → e# c ≤ S c - 3 → {j : ℕ} → IsProduct c j → Broken c j ↔ Breaks (element c) (S c) [] j

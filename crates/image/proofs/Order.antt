@@ -6,8 +6,6 @@ use native.Mathlib.Omega.{arith}
 use lib.ListN.{length, getD}
 use Rattle.chains.specs.Chain.{Sector, Chain, Walk, found, broken, walk}
 use Rattle.chains.specs.Packed.{packed, told}
-use Rattle.chains.specs.Products.{sectorsOf}
-use Rattle.chains.specs.declared.Walked.{Walked}
 use Rattle.chains.specs.declared.Walked.the-variants as W
 use Rattle.chains.proofs.Laws.{found-chain}
 use Rattle.chains.proofs.Order.{chain-first, chain-some, chain-next, chain-sector}

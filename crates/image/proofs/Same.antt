@@ -1,23 +1,22 @@
 -- What stays of an image that is altered in one region: the head and shell, the entries, the padding and every table element but one, where
 -- the region spares them. A region within a chain's sector, past a product's header, does, and so does one element. Assumes nothing.
-use mathlib.Core.Path.{_≡_, refl, sym, ap, _∙_}
+use mathlib.Core.Path.{_≡_, sym, _∙_}
 use mathlib.Core.Logic.{_≢_, inl, inr, ⊎-elim}
-use mathlib.Core.List.{List, [], _∷_}
+use mathlib.Core.List.{List}
 use Prim.Native.Nat.{ℕ, suc, _+_, _-_, _*_, _≤_, _<_}
 use native.Mathlib.Nat.{suc-mul, mul-suc, mul-le-mul-right, mul-le-mul-left}
 use native.Mathlib.Decide.{decLt}
 use native.Mathlib.Omega.{arith}
 use lib.ListN.{length, drop}
-use Rattle.bits.specs.Bits.{field}
-use Rattle.bits.proofs.Laws.{Apart, field-drop}
-use Rattle.fields.specs.declared.Span.{Span}
-use Rattle.fields.specs.Fields.{fields}
-use Rattle.fields.specs.Lists.{shell}
-use Rattle.fields.proofs.Only.{Inside, joined-inside, Only, only-field, only-part}
-use Rattle.shell.specs.Shell.{datasetOf, sectorBytes, sectorCount, entryCount, tableLength}
+use Rattle.bits.specs.Bits.{bit, field}
+use Rattle.bits.proofs.Laws.{Apart, bit-drop, field-drop}
+use Rattle.fields.specs.Lists.{listOf}
+use Rattle.fields.specs.declared.Layout.the-variants.{Shell}
+use Rattle.fields.proofs.Joined.{lists-joined}
+use Rattle.fields.proofs.Only.{joined-inside, fields-same, Only, only-field, only-part}
 use Rattle.chains.specs.Chain.{Sector}
 use Rattle.chains.specs.Psi.{Ψ}
-use Rattle.image.specs.Image.{stated, version, copy, shellValues, dataset, B, S, e#, SCTL, shellPad, SECR, sealed, sectorAt, directoryAt, entryAt, tableAt, element, tablePad}
+use Rattle.image.specs.Image.{stated, version, copy, shellValues, dataset, B, S, e#, SCTL, SECR, beforeSECR, sectorAt, directoryAt, tableAt, element}
 use Rattle.image.specs.Bounds.{Bounds}
 use Rattle.image.specs.Product.{elementAt}
 
@@ -35,16 +34,16 @@ pub record Same (c d : List ℕ) (l : ℕ) : Type 0 where
   pub stated-same : stated d ≡ stated c
   pub version-same : version d ≡ version c
   pub copy-same : copy d ≡ copy c
-  pub dataset-same : dataset d ≡ dataset c
   pub values-same : shellValues d ≡ shellValues c
+  pub dataset-same : dataset d ≡ dataset c
   pub B-same : B d ≡ B c
   pub S-same : S d ≡ S c
   pub e#-same : e# d ≡ e# c
   pub SCTL-same : SCTL d ≡ SCTL c
-  pub pad-same : shellPad d ≡ shellPad c
   pub SECR-same : SECR d ≡ SECR c
-  pub sealed-same : sealed d ≡ sealed c
-  pub table-pad-same : tablePad d ≡ tablePad c
+  pub before-secr-same : beforeSECR d ≡ beforeSECR c
+  pub shell-bits-same : (i : ℕ) → i < 8 * B c → bit (drop 4 d) i ≡ bit (drop 4 c) i
+  pub padding-bits-same : (i : ℕ) → 8 * tableAt c + Ψ (S c) * (S c - 3) ≤ i → i < 8 * (tableAt c + SCTL c) → bit d i ≡ bit c i
   pub directory-same : directoryAt d ≡ directoryAt c
   pub table-same : tableAt d ≡ tableAt c
   pub entries-same : (p w : ℕ) → p + w ≤ 16 + 40 * e# c → field d (8 * directoryAt c + p) w ≡ field c (8 * directoryAt c + p) w
@@ -52,15 +51,12 @@ pub record Same (c d : List ℕ) (l : ℕ) : Type 0 where
   pub sector-same : (i : ℕ) → sectorAt d i ≡ sectorAt c i
   pub headers-same : (i p w : ℕ) → Sector (S c) i → p + w ≤ 16 → field d (8 * sectorAt c i + p) w ≡ field c (8 * sectorAt c i + p) w
 
--- fields that are the same one by one
-fields-cong : (x y : List ℕ) (a n : ℕ) (ps : List Span) → Inside a n ps → ((p w : ℕ) → a ≤ p → p + w ≤ a + n → field x p w ≡ field y p w) → fields x ps ≡ fields y ps
-unfolding fields
-fields-cong x y a n [] h e = refl
-fields-cong x y a n (p ∷ ps) h e = rw (e (p .0) (p .1) (h .0 .0) (h .0 .1), fields-cong x y a n ps (h .1) e)
-
 module _ {c d : List ℕ} {l a n : ℕ} (b : Bounds c) (o : Only c d a n) (s : Spares c l a n) where
   early : (p w : ℕ) → p + w ≤ 8 * (4 + B c) → field d p w ≡ field c p w
   early p w h = only-field o p w (inr (omega arith))
+
+  early-shell : (p w : ℕ) → p + w ≤ 8 * B c → field (drop 4 d) p w ≡ field (drop 4 c) p w
+  early-shell p w h = field-drop d 4 p w ∙ early (32 + p) w (omega arith) ∙ sym (field-drop c 4 p w)
 
   stated-is : stated d ≡ stated c
   unfolding stated
@@ -74,45 +70,45 @@ module _ {c d : List ℕ} {l a n : ℕ} (b : Bounds c) (o : Only c d a n) (s : S
   unfolding copy
   copy-is = early 24 8 (omega arith)
 
-  -- a field of the bytes from byte 4 on, within sector 0
-  of-shell : (p w : ℕ) → p + w ≤ 8 * B c → field (drop 4 d) p w ≡ field (drop 4 c) p w
-  of-shell p w h = field-drop d 4 p w ∙ early (32 + p) w (omega arith) ∙ sym (field-drop c 4 p w)
-
   values-are : shellValues d ≡ shellValues c
   unfolding shellValues
-  values-are = fields-cong (drop 4 d) (drop 4 c) 0 160 shell (joined-inside 0 shell 160 tt 0 160 (omega arith) (omega arith)) (λ p w h k. of-shell p w (omega arith))
+  values-are =
+      fields-same (drop 4 d) (drop 4 c) 160 (listOf Shell) (λ p w h. early-shell p w (omega arith))
+      (joined-inside 0 (listOf Shell) 160 (lists-joined Shell) 0 160 (omega arith) (omega arith))
 
   dataset-is : dataset d ≡ dataset c
   unfolding dataset
-  dataset-is = ap datasetOf values-are
+  dataset-is = rw values-are
 
   B-is : B d ≡ B c
   unfolding B
-  B-is = ap sectorBytes values-are
+  B-is = rw values-are
 
   S-is : S d ≡ S c
   unfolding S
-  S-is = ap sectorCount values-are
+  S-is = rw values-are
 
   e#-is : e# d ≡ e# c
   unfolding e#
-  e#-is = ap entryCount values-are
+  e#-is = rw values-are
 
   SCTL-is : SCTL d ≡ SCTL c
   unfolding SCTL
-  SCTL-is = ap tableLength values-are
-
-  pad-is : shellPad d ≡ shellPad c
-  unfolding shellPad
-  pad-is = rw dataset-is (of-shell 160 (8 * (dataset c - 22)) (omega arith))
+  SCTL-is = rw values-are
 
   SECR-is : SECR d ≡ SECR c
   unfolding SECR
-  SECR-is = rw dataset-is (of-shell (8 * (dataset c - 2)) 16 (omega arith))
+  SECR-is = rw dataset-is (early-shell (8 * (dataset c - 2)) 16 (omega arith))
 
-  sealed-is : sealed d ≡ sealed c
-  unfolding sealed
-  sealed-is = rw dataset-is (only-part o 4 (dataset c - 2) (inr (omega arith)))
+  before-secr-is : beforeSECR d ≡ beforeSECR c
+  unfolding beforeSECR
+  before-secr-is = rw dataset-is (only-part o 4 (dataset c - 2) (inr (omega arith)))
+
+  shell-bits : (i : ℕ) → i < 8 * B c → bit (drop 4 d) i ≡ bit (drop 4 c) i
+  shell-bits i h = bit-drop d 4 i ∙ o .outside (32 + i) (inl (omega arith)) ∙ sym (bit-drop c 4 i)
+
+  padding-bits : (i : ℕ) → 8 * tableAt c + Ψ (S c) * (S c - 3) ≤ i → i < 8 * (tableAt c + SCTL c) → bit d i ≡ bit c i
+  padding-bits i h k = o .outside i (⊎-elim (λ z. inr (omega arith)) (λ z. inl (omega arith)) (s .padding))
 
   directory-is : directoryAt d ≡ directoryAt c
   unfolding directoryAt sectorAt
@@ -121,10 +117,6 @@ module _ {c d : List ℕ} {l a n : ℕ} (b : Bounds c) (o : Only c d a n) (s : S
   table-is : tableAt d ≡ tableAt c
   unfolding tableAt
   table-is = rw (directory-is, e#-is)
-
-  table-pad-is : tablePad d ≡ tablePad c
-  unfolding tablePad
-  table-pad-is = rw (table-is, S-is, SCTL-is) (only-field o _ _ (s .padding))
 
   elements-are : (i : ℕ) → Sector (S c) i → i ≢ l → element d i ≡ element c i
   unfolding element elementAt
@@ -146,16 +138,16 @@ module _ {c d : List ℕ} {l a n : ℕ} (b : Bounds c) (o : Only c d a n) (s : S
     stated-same = stated-is;
     version-same = version-is;
     copy-same = copy-is;
-    dataset-same = dataset-is;
     values-same = values-are;
+    dataset-same = dataset-is;
     B-same = B-is;
     S-same = S-is;
     e#-same = e#-is;
     SCTL-same = SCTL-is;
-    pad-same = pad-is;
     SECR-same = SECR-is;
-    sealed-same = sealed-is;
-    table-pad-same = table-pad-is;
+    before-secr-same = before-secr-is;
+    shell-bits-same = shell-bits;
+    padding-bits-same = padding-bits;
     directory-same = directory-is;
     table-same = table-is;
     entries-same = entries-are;

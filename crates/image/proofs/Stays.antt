@@ -4,18 +4,17 @@ use mathlib.Core.Path.{_≡_, refl, sym, ap, _∙_}
 use mathlib.Core.Logic.{_≢_}
 use mathlib.Core.Bool.{Bool, true, false}
 use mathlib.Core.List.{List}
-use Prim.Native.Nat.{ℕ, _+_, _-_, _*_, _≤_, _<_}
-use native.Mathlib.Decide.{decLt}
+use Prim.Native.Nat.{ℕ, _+_, _-_, _*_, _≤_}
 use native.Mathlib.Nat.{add-zero}
 use native.Mathlib.Omega.{arith}
 use Rattle.bits.specs.Bits.{field}
 use Rattle.chains.specs.Chain.{Sector, Ends, In, Common, Chain, Walk, found, broken, walk, lastOf}
+use Rattle.chains.specs.Psi.{tableBytes}
 use Rattle.chains.proofs.Laws.{found-chain, broken-none, chain-apart, chain-marked}
 use Rattle.chains.proofs.Kept.{chain-kept}
 use Rattle.image.specs.Image.{S, e#, directoryAt, entryAt, isProduct, element, chain, sectors, sectorsOf, mark, markOf}
-use Rattle.image.specs.Obeys.{IsProduct, Broken, Shares, Obeys}
-use Rattle.image.specs.Rules.{rules}
-use Rattle.image.proofs.Exact.{test-product, product-test, product-sector, so-sectors, obeys-kept, kept-obeys, none-broken, none-shares}
+use Rattle.image.specs.Obeys.{IsProduct, Obeys}
+use Rattle.image.proofs.Exact.{test-product, product-test, product-sector, so-sectors}
 use Rattle.image.proofs.Same.{Same}
 
 -- the chain of a product
@@ -28,7 +27,7 @@ chain-of c o {j} v = go (walk (element c) (S c) j (S c - 3)) refl
 
     go : (w : Walk) → walk (element c) (S c) j (S c - 3) ≡ w → Chain (element c) (S c) j (sectorsOf w) (markOf w)
     go (found ss m) q = found-chain (element c) (S c) s .0 q
-    go broken q = absurd (none-broken c o j (record { is-product = v; none = broken-none (element c) (S c) s .0 q }))
+    go broken q = let r = o .chained j v in absurd (broken-none (element c) (S c) s .0 q (r .0) (r .1) (r .2))
 
 pub so-mark : (c : List ℕ) → e# c ≤ S c - 3 → {j m : ℕ} {ss : List ℕ} → IsProduct c j → Chain (element c) (S c) j ss m → mark c j ≡ m
 unfolding mark chain
@@ -36,10 +35,7 @@ so-mark c fits v d = rw (found-chain (element c) (S c) (product-sector c fits v)
 
 -- two products have no sector in common
 pub no-common : (c : List ℕ) → Obeys c → {j k : ℕ} → IsProduct c j → IsProduct c k → j ≢ k → Common (sectors c j) (sectors c k) → ⊥
-no-common c o {j} {k} v w d h = elim (decLt j k) [
-  | yes l ↦ none-shares c o k (record { lower = j; below = l; product-lower = v; product-k = w; sectors = sectors c j; mark = mark c j; sectors-k = sectors c k; mark-k = mark c k; chain = chain-of c o v; chain-k = chain-of c o w; common = h })
-  | no l ↦ none-shares c o j (record { lower = k; below = omega arith; product-lower = w; product-k = v; sectors = sectors c k; mark = mark c k; sectors-k = sectors c j; mark-k = mark c j; chain = chain-of c o w; chain-k = chain-of c o v; common = (h .0, h .2, h .1) })
-]
+no-common c o {j} {k} v w d h = o .disjoint j k v w d (sectors c j) (sectors c k) (mark c j) (mark c k) (chain-of c o v) (chain-of c o w) h
 
 module _ {c d : List ℕ} {l m k : ℕ} (o : Obeys c) (q : Same c d l) (old : Ends (S c) l (element c l) m) (new : Ends (S c) l (element d l) k) where
   pub entry-same : (j p w : ℕ) → 1 ≤ j → j ≤ e# c → p + w ≤ 40 → field d (8 * entryAt d j + p) w ≡ field c (8 * entryAt c j + p) w
@@ -68,27 +64,44 @@ module _ {c d : List ℕ} {l m k : ℕ} (o : Obeys c) (q : Same c d l) (old : En
   chain-back : {j n : ℕ} {ss : List ℕ} → IsProduct c j → Chain (element d) (S c) j ss n → (r : ℕ) × Chain (element c) (S c) j ss r
   chain-back v h = chain-kept (element d) (element c) (S c) l (λ x s t. sym (q .elements-same x s t)) (sector-of v) new old h
 
-  broken-back : (j : ℕ) → Broken d j → ⊥
-  broken-back j b =
-      let v = product-back (b .is-product) in
-      let t = chain-there v (chain-of c o v) in
-      b .none (sectors c j) (t .0) (rw (q .S-same) (t .1))
+  chained-there : (j : ℕ) → IsProduct d j → (ss : List ℕ) × (r : ℕ) × Chain (element d) (S d) j ss r
+  chained-there j v =
+      let w = product-back v in
+      let t = chain-there w (chain-of c o w) in
+      (sectors c j, t .0, rw (q .S-same) (t .1))
 
-  shares-back : (j : ℕ) → Shares d j → ⊥
-  shares-back j h =
-      let v = product-back (h .product-lower) in
-      let w = product-back (h .product-k) in
-      let x = chain-back v (rw (q .S-same) at (h .chain)) in
-      let y = chain-back w (rw (q .S-same) at (h .chain-k)) in
-      none-shares c o j (record { lower = h .lower; below = h .below; product-lower = v; product-k = w; sectors = h .sectors; mark = x .0; sectors-k = h .sectors-k; mark-k = y .0; chain = x .1; chain-k = y .1; common = h .common })
-
-  -- the rules 1 to 9 look at nothing else
-  rules-same : rules d ≡ rules c
-  unfolding rules
-  rules-same = rw (q .length-same, q .stated-same, q .version-same, q .copy-same, q .values-same, q .dataset-same, q .B-same, q .S-same, q .e#-same, q .SCTL-same, q .pad-same, q .SECR-same, q .sealed-same, q .table-pad-same)
+  disjoint-there : (i j : ℕ) → IsProduct d i → IsProduct d j → i ≢ j → (ss ts : List ℕ) (r t : ℕ) → Chain (element d) (S d) i ss r → Chain (element d) (S d) j ts t
+      → Common ss ts → ⊥
+  disjoint-there i j v w ne ss ts r t a b h =
+      let x = chain-back (product-back v) (rw (q .S-same) at a) in
+      let y = chain-back (product-back w) (rw (q .S-same) at b) in
+      o .disjoint i j (product-back v) (product-back w) ne ss ts (x .0) (y .0) (x .1) (y .1) h
 
   pub obeys : Obeys d
-  obeys = kept-obeys d (rw rules-same (obeys-kept c o)) broken-back shares-back
+  obeys = record {
+    head = omega (arith, q .length-same, o .head);
+    length-stated = q .stated-same ∙ o .length-stated ∙ sym (q .length-same);
+    version-one = q .version-same ∙ o .version-one;
+    copy-in-force = omega (arith, q .copy-same, o .copy-in-force);
+    shell-there = omega (arith, q .length-same, o .shell-there);
+    bit-map-zero = rw (q .values-same) (o .bit-map-zero);
+    dataset-least = omega (arith, q .dataset-same, o .dataset-least);
+    sectors-least = omega (arith, q .S-same, o .sectors-least);
+    size-least = omega (arith, q .B-same, o .size-least);
+    entries = (omega (arith, q .e#-same, o .entries .0), omega (arith, q .e#-same, q .S-same, o .entries .1));
+    table-bytes = q .SCTL-same ∙ o .table-bytes ∙ ap tableBytes (sym (q .S-same));
+    directory-fits = omega (arith, q .e#-same, q .SCTL-same, q .B-same, o .directory-fits);
+    dataset-fits = omega (arith, q .dataset-same, q .B-same, o .dataset-fits);
+    whole = rw (q .length-same, q .S-same, q .B-same) (o .whole);
+    checksum = rw (q .SECR-same, q .before-secr-same) (o .checksum);
+    iin = rw (q .values-same) (o .iin);
+    issn = rw (q .values-same) (o .issn);
+    chd = rw (q .values-same) (o .chd);
+    shell-padding = λ i a z. let y = q .dataset-same in q .shell-bits-same i (omega (arith, o .dataset-fits)) ∙ o .shell-padding i a (omega arith);
+    table-padding = λ i a z. let x = (rw (q .table-same, q .S-same) at a) in let y = (rw (q .table-same, q .SCTL-same) at z) in q .padding-bits-same i x y ∙ o .table-padding i x y;
+    chained = chained-there;
+    disjoint = disjoint-there;
+  }
 
   -- every chain has the sectors that it had
   pub sectors-same : {j : ℕ} → IsProduct c j → sectors d j ≡ sectors c j

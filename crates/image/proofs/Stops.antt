@@ -12,7 +12,6 @@ use Rattle.image.proofs.Bounded.{bounds}
 use Rattle.image.specs.Shape.{shapeOf}
 use Rattle.image.specs.Answer.{answer, ruledOf}
 use Rattle.image.specs.declared.Shape.{Shape}
-use Rattle.image.specs.declared.Checked.{Checked}
 use Rattle.image.specs.declared.Checked.the-variants.{Accepted, Refused}
 
 -- rules of which none fails are kept

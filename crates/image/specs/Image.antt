@@ -3,7 +3,7 @@
 use Prim.Native.Nat.{ℕ, _+_, _-_, _*_}
 use mathlib.Core.Bool.{Bool, _&&_, not}
 use mathlib.Core.List.{List, [], _∷_, _++_}
-use lib.ListN.{length, take, drop}
+use lib.ListN.{take, drop}
 use lib.Dec.{eqb, leb}
 use Rattle.bits.specs.Bits.{field}
 use Rattle.fields.specs.Fields.{valueAt}
@@ -54,8 +54,8 @@ unfoldable pub SECR : List ℕ → ℕ
 SECR c = shell.SECR (drop 4 c) (dataset c)
 
 -- the bytes that SECR is computed over
-unfoldable pub sealed : List ℕ → List ℕ
-sealed c = shell.sealed (drop 4 c) (dataset c)
+unfoldable pub beforeSECR : List ℕ → List ℕ
+beforeSECR c = shell.beforeSECR (drop 4 c) (dataset c)
 
 -- ---- the directory in force ("The image", "Directory sector"): copy A is sector S-2, copy B is S-1
 
@@ -85,7 +85,7 @@ element c i = table.packed c (8 * tableAt c) (Ψ (S c)) i
 unfoldable pub tablePad : List ℕ → ℕ
 tablePad c = field c (8 * tableAt c + Ψ (S c) * (S c - 3)) (8 * SCTL c - Ψ (S c) * (S c - 3))
 
--- ---- chains and products
+-- ---- chains and products; `sectors`, `mark` and `product` are meant of the products of an accepted image
 
 -- the walk from sector j, with S-3 sectors allowed
 unfoldable pub chain : List ℕ → ℕ → Walk

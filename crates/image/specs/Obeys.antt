@@ -11,7 +11,7 @@ use Rattle.chains.specs.Psi.{Ψ, tableBytes}
 use Rattle.crc.specs.Crc.{crc}
 use Rattle.rules.specs.Claim.{Kept, Fails}
 use Rattle.shell.specs.Shell.{ShellBitMap, IIN, ISSN, CHD}
-use Rattle.image.specs.Image.{stated, version, copy, shellValues, dataset, B, S, e#, SCTL, SECR, sealed, entryAt, tableAt, element}
+use Rattle.image.specs.Image.{stated, version, copy, shellValues, dataset, B, S, e#, SCTL, SECR, beforeSECR, entryAt, tableAt, element}
 use Rattle.image.specs.Rules.{rules}
 
 -- entry j is there and not empty
@@ -44,8 +44,8 @@ pub record Obeys (c : List ℕ) : Type 0 where
   pub version-one : version c ≡ 1
   pub copy-in-force : copy c ≤ 1
   pub shell-there : 36 ≤ length c
-  -- 5
-  pub full-shell : ShellBitMap (shellValues c) ≡ 0
+  -- 5: document 01 refuses every map but 0 (docs/DECISIONS.md, 1)
+  pub bit-map-zero : ShellBitMap (shellValues c) ≡ 0
   pub dataset-least : 22 ≤ dataset c
   -- 6
   pub sectors-least : 4 ≤ S c
@@ -56,7 +56,7 @@ pub record Obeys (c : List ℕ) : Type 0 where
   pub dataset-fits : dataset c ≤ B c
   pub whole : length c ≡ 4 + S c * B c
   -- 7
-  pub checksum : SECR c ≡ crc (sealed c)
+  pub checksum : SECR c ≡ crc (beforeSECR c)
   -- 8: the digits, and the shell's padding from byte 20 up to the checksum
   pub iin : Digits 6 (IIN (shellValues c))
   pub issn : Digits 7 (ISSN (shellValues c))

@@ -1,4 +1,4 @@
--- A product of an image: where it stands, and what its entry, its header and its chain say. This is all that a call on one entry looks at.
+-- A product of an image: where it stands, and what its entry, its header and its chain say. This is all that a step looks at.
 -- Assumes nothing.
 use Prim.Native.Nat.{ℕ, zero, suc, _+_, _-_, _*_}
 use mathlib.Core.Bool.{Bool, true, false}

@@ -10,7 +10,7 @@ use Rattle.crc.specs.Crc.{crc}
 use Rattle.rules.specs.Claim.{_≡?_, _≤?_, _and_, Rule, rule, first}
 use Rattle.rules.specs.Lowest.{lowest}
 use Rattle.shell.specs.Shell.{formRules, digitRules}
-use Rattle.image.specs.Image.{stated, version, copy, shellValues, dataset, B, S, e#, SCTL, shellPad, SECR, sealed, isProduct, element, tablePad}
+use Rattle.image.specs.Image.{stated, version, copy, shellValues, dataset, B, S, e#, SCTL, shellPad, SECR, beforeSECR, isProduct, element, tablePad}
 
 -- the rows 1 to 4
 abbrev pub headRules : List ℕ → List Rule
@@ -38,7 +38,7 @@ sizeRules c =
 -- the rows 7 to 9; the digits of 8 are the shell's own
 abbrev pub contentRules : List ℕ → List Rule
 contentRules c =
-    rule 7 (SECR c ≡? crc (sealed c))
+    rule 7 (SECR c ≡? crc (beforeSECR c))
     ∷ (digitRules (shellValues c)
     ++ (rule 8 (shellPad c ≡? 0)
     ∷ rule 9 (tablePad c ≡? 0)

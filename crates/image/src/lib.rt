@@ -1,7 +1,6 @@
 // The image: the rules of document 01 in their order.
 use chains::Table;
 use chains::Walked;
-use fields::Layout;
 use rules::BROKEN_CHAIN;
 use rules::NO_SHELL;
 use rules::SHARED_SECTOR;
@@ -13,19 +12,18 @@ use rules::WRONG_SHELL;
 use rules::WRONG_SIZE;
 use rules::WRONG_TABLE;
 use rules::WRONG_VERSION;
+use rules::need;
 ghost use mathlib.Core.Path.{_≡_};
 ghost use Prim.Native.Nat.{_+_, _-_, _*_, _^_, _≤_, _<_};
-ghost use lib.ListN.{length, getD};
+ghost use lib.ListN.{length, drop, getD};
 ghost use lib.Dec.{eqb};
 ghost use Rattle.crc.specs.Crc as sum;
 ghost use Rattle.bits.specs.Bits.{field};
-ghost use Rattle.fields.specs.Fields.{valueAt};
-ghost use Rattle.fields.specs.Lists as lists;
 ghost use Rattle.shell.specs.Shell.{decimal};
 ghost use Rattle.chains.specs.Packed.{told, lastLeft};
 ghost use Rattle.rules.specs.Claim.{unless, first, holds};
 ghost use Rattle.rules.specs.Lowest.{lowest};
-ghost use Rattle.image.specs.Image.{shellValues, SECR, sealed, tablePad, S, e#, isProduct, chain};
+ghost use Rattle.image.specs.Image.{SECR, beforeSECR, tablePad, S, e#, isProduct, chain};
 ghost use Rattle.image.specs.Bounds.{Bounds};
 ghost use Rattle.image.specs.Shape.{shapeOf, Shaped, tableOf};
 ghost use Rattle.image.specs.Answer.{ruledOf, checkOf, chainsOf};
@@ -39,27 +37,19 @@ fn at(image: &[u8], first: usize, width: usize) -> usize
     bits::get(image, first, width) as usize
 }
 
-// The value i, from 0, of the image's first four bytes.
-fn of_head(image: &[u8], i: usize) -> usize
-    requires { ⌜ (i < 3) × (4 ≤ length (now image)) ⌝ }
-    ensures { λ r. ⌜ (r ≡ valueAt Layout.Image i (now (image .entry))) × (r < 2 ^ lists.nth lists.image i .1) ⌝ }
+// The field at bit `first` of the shell record, which starts at byte 4; its places are those of the shell's list.
+fn of_shell(image: &[u8], first: usize, width: usize) -> usize
+    requires { ⌜ (width ≤ 28) × (first + width ≤ 160) × (36 ≤ length (now image)) ⌝ }
+    ensures { λ r. ⌜ (r ≡ field (drop 4 (now (image .entry))) first width) × (r < 2 ^ width) ⌝ }
 {
-    fields::value(image, Layout::Image, i) as usize
+    bits::get(image, 32 + first, width) as usize
 }
 
-// The value i, from 0, of the shell record.
-fn of_shell(image: &[u8], i: usize) -> usize
-    requires { ⌜ (i < 16) × (36 ≤ length (now image)) ⌝ }
-    ensures { λ r. ⌜ (r ≡ getD (shellValues (now (image .entry))) i 0) × (r < 2 ^ lists.nth lists.shell i .1) ⌝ }
+// A byte as a size.
+fn wide(b: u8) -> usize
+    ensures { λ r. ⌜ (r ≡ b) × (r < 256) ⌝ }
 {
-    fields::value(&image[4..], Layout::Shell, i) as usize
-}
-
-// The number of a rule that is not kept, or that of the rules after it.
-fn need(number: usize, kept: bool, rest: usize) -> usize
-    ensures { λ r. ⌜ r ≡ unless kept rest number ⌝ }
-{
-    if kept { rest } else { number }
+    b as usize
 }
 
 // Numbers 1 to 4.
@@ -70,9 +60,9 @@ fn head(image: &[u8]) -> usize
     if n < 4 {
         return WRONG_LENGTH;
     }
-    let stated = of_head(image, 0);
-    let version = of_head(image, 1);
-    let copy = of_head(image, 2);
+    let stated = at(image, 0, 16);
+    let version = at(image, 16, 8);
+    let copy = at(image, 24, 8);
     need(
         WRONG_LENGTH,
         stated == n,
@@ -105,12 +95,12 @@ fn sizes(image: &[u8]) -> usize
     ensures { λ r. ⌜ r ≡ first (sizeRules (now (image .entry))) ⌝ }
 {
     let n = image.len();
-    let dataset = 4 * of_shell(image, 0);
-    let map = of_shell(image, 1);
-    let b = of_shell(image, 12);
-    let s = of_shell(image, 13);
-    let e = of_shell(image, 14);
-    let t = of_shell(image, 15);
+    let dataset = 4 * of_shell(image, 0, 6);
+    let map = of_shell(image, 6, 6);
+    let b = of_shell(image, 128, 8);
+    let s = of_shell(image, 136, 8);
+    let e = of_shell(image, 144, 8);
+    let t = of_shell(image, 152, 8);
     let length = need(WRONG_SIZE, n == whole(s, b), 0);
     let shell = need(WRONG_SIZE, dataset <= b, length);
     let directory = need(WRONG_SIZE, 16 + 5 * e + t <= b, shell);
@@ -170,12 +160,12 @@ fn measure(image: &[u8]) -> Shape
     requires { ⌜ Bounds (now image) ⌝ }
     ensures { λ r. ⌜ r ≡ shapeOf (now (image .entry)) ⌝ }
 {
-    let copy = of_head(image, 2);
-    let dataset = 4 * of_shell(image, 0);
-    let size = of_shell(image, 12);
-    let sectors = of_shell(image, 13);
-    let entries = of_shell(image, 14);
-    let bytes = of_shell(image, 15);
+    let copy = at(image, 24, 8);
+    let dataset = 4 * of_shell(image, 0, 6);
+    let size = of_shell(image, 128, 8);
+    let sectors = of_shell(image, 136, 8);
+    let entries = of_shell(image, 144, 8);
+    let bytes = of_shell(image, 152, 8);
     let directory = whole(sectors - 2 + copy, size);
     Shape {
         copy: copy,
@@ -191,13 +181,13 @@ fn measure(image: &[u8]) -> Shape
 }
 
 // Whether SECR is that of the bytes before it.
-fn sealed_right(image: &[u8], g: Shape) -> bool
+fn secr_right(image: &[u8], g: Shape) -> bool
     requires { ⌜ Shaped (now image) g ⌝ }
-    ensures { λ r. ⌜ r ≡ eqb (SECR (now (image .entry))) (sum.crc (sealed (now (image .entry)))) ⌝ }
+    ensures { λ r. ⌜ r ≡ eqb (SECR (now (image .entry))) (sum.crc (beforeSECR (now (image .entry)))) ⌝ }
 {
-    let size = g.dataset - 2;
-    let end = 4 + size;
-    at(image, 32 + 8 * size, 16) == crc::crc(&image[4..end]) as usize
+    let end = 2 + g.dataset;
+    let low = end + 1;
+    256 * wide(image[end]) + wide(image[low]) == crc::crc(&image[4..end]) as usize
 }
 
 // The bits after the chain table's last element.
@@ -206,7 +196,7 @@ fn table_pad(image: &[u8], g: Shape) -> usize
     ensures { λ r. ⌜ r ≡ tablePad (now (image .entry)) ⌝ }
 {
     let used = g.psi * (g.sectors - 3);
-    at(image, 8 * g.table + used, 8 * g.bytes - used)
+    bits::pair(image, 8 * g.table + used, 8 * g.bytes - used) as usize
 }
 
 // Numbers 7 to 9.
@@ -216,10 +206,10 @@ fn content(image: &[u8], g: Shape) -> usize
 {
     let table = need(WRONG_TABLE, table_pad(image, g) == 0, 0);
     let pad = need(WRONG_DIGIT, zeros(image, 24, g.dataset - 22), table);
-    let chd = need(WRONG_DIGIT, digits(1, of_shell(image, 6)), pad);
-    let issn = need(WRONG_DIGIT, digits(7, of_shell(image, 5)), chd);
-    let iin = need(WRONG_DIGIT, digits(6, of_shell(image, 3)), issn);
-    need(WRONG_SECR, sealed_right(image, g), iin)
+    let chd = need(WRONG_DIGIT, digits(1, of_shell(image, 84, 4)), pad);
+    let issn = need(WRONG_DIGIT, digits(7, of_shell(image, 56, 28)), chd);
+    let iin = need(WRONG_DIGIT, digits(6, of_shell(image, 16, 24)), issn);
+    need(WRONG_SECR, secr_right(image, g), iin)
 }
 
 // What a check answers.
@@ -248,13 +238,17 @@ fn rules_kept(image: &[u8]) -> Checked
     Checked::Accepted(g)
 }
 
-// Whether entry j is not empty.
+// Whether entry j is not empty: TYP's byte is looked at first.
 pub fn present(image: &[u8], g: Shape, j: usize) -> bool
     requires { ⌜ Shaped (now image) g ⌝ }
     requires { ⌜ (1 ≤ j) × (j ≤ g .entries) ⌝ }
     ensures { λ r. ⌜ r ≡ isProduct (now (image .entry)) j ⌝ }
 {
-    bits::get(image, 8 * (g.directory + 2 + 5 * (j - 1)), 40) != 0
+    let k = g.directory + 2 + 5 * (j - 1);
+    if image[k + 2] != 0 {
+        return true;
+    }
+    !((image[k] == 0) & (image[k + 1] == 0) & (image[k + 3] == 0) & (image[k + 4] == 0))
 }
 
 // The last sector of the chain of entry j, and 256 for each sector then still allowed; 0 where it is broken.

@@ -1,3 +1,5 @@
 pub mod Commute
+pub mod Example
+pub mod Incident
 pub mod Jobs
 pub mod Touched

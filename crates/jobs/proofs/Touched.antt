@@ -11,7 +11,7 @@ use Rattle.steps.specs.Step.{Step, owner}
 use Rattle.steps.specs.Steps.{answer, next}
 use Rattle.steps.specs.Touched.{Touched}
 use Rattle.steps.proofs.Keeps.{bytes-next}
-use Rattle.steps.proofs.Touched.{Untouched, untouched, untouched-same, untouched-then, not-touched}
+use Rattle.steps.proofs.Touches.{Untouched, untouched, untouched-same, untouched-then, not-touched}
 use Rattle.jobs.specs.Demand.{card}
 use Rattle.jobs.specs.Named.{Named, now, then}
 

@@ -1,6 +1,6 @@
 -- Which entries a list of steps names with a step that was taken. Assumes nothing.
 use mathlib.Core.Path.{_≡_}
-use mathlib.Core.List.{List, [], _∷_}
+use mathlib.Core.List.{List, _∷_}
 use Prim.Native.Nat.{ℕ}
 use Rattle.steps.specs.Step.{Step, owner}
 use Rattle.steps.specs.Steps.{answer, next}

@@ -30,13 +30,13 @@ last-two (y ∷ body) a b p q =
     let e : suc (length body) + 1 ≡ suc (length body + 1) = omega arith in
     rw e (ap (λ (l : List ℕ). y ∷ l) (last-two body a b p q))
 
-pub sealed-is : (vs : List ℕ) {body : List ℕ} (rest : List ℕ) {e x : ℕ} → body ≡ bodyOf vs → e ≡ datasetOf vs - 2 → length rest ≡ 2
+pub before-secr-is : (vs : List ℕ) {body : List ℕ} (rest : List ℕ) {e x : ℕ} → body ≡ bodyOf vs → e ≡ datasetOf vs - 2 → length rest ≡ 2
     → x ≡ crc (take e (body ++ rest)) → set (set (body ++ rest) e (x / 256)) (e + 1) (x % 256) ≡ dataset vs
 unfolding dataset
-sealed-is vs [] b e r x = absurd (omega arith)
-sealed-is vs (p ∷ []) b e r x = absurd (omega arith)
-sealed-is vs (p ∷ q ∷ (z ∷ zs)) b e r x = absurd (omega arith)
-sealed-is vs {body} (p ∷ q ∷ []) {e} {x} b i r s =
+before-secr-is vs [] b e r x = absurd (omega arith)
+before-secr-is vs (p ∷ []) b e r x = absurd (omega arith)
+before-secr-is vs (p ∷ q ∷ (z ∷ zs)) b e r x = absurd (omega arith)
+before-secr-is vs {body} (p ∷ q ∷ []) {e} {x} b i r s =
     let n : length (bodyOf vs) ≡ e = omega (arith, length-body vs) in
     let t : take e (bodyOf vs ++ (p ∷ q ∷ [])) ≡ bodyOf vs = take-at (bodyOf vs) (p ∷ q ∷ []) e n in
     rw (s, b, t, ← n) (last-two (bodyOf vs) p q (crc (bodyOf vs) / 256) (crc (bodyOf vs) % 256))

@@ -22,7 +22,7 @@ use Rattle.rules.specs.declared.Written.{Written}
 use Rattle.rules.specs.Written.{writtenOf}
 use Rattle.rules.proofs.First.{kept-of-first, taken-exactly, refused-exactly}
 use Rattle.shell.specs.declared.Shell.{Shell}
-use Rattle.shell.specs.Shell.{valuesIn, datasetOf, padding, SECR, sealed}
+use Rattle.shell.specs.Shell.{valuesIn, datasetOf, padding, SECR, beforeSECR}
 use Rattle.shell.specs.Encode.{decodeOf, encodeRules, encodeNumber, encodeIn, bodyOf, secrBytes, dataset}
 use Rattle.shell.proofs.Rules.{numbered, taken}
 use Rattle.shell.proofs.Dataset.{length-body}
@@ -97,7 +97,7 @@ module _ (vs : List ℕ) (room : ℕ) (k : encodeNumber vs room ≡ 0) where
       field-of-zeros (dataset vs) 160 (8 * (datasetOf vs - 22))
       (λ j h. bit-dataset vs (160 + j) (omega arith) ∙ bit-body vs (160 + j) (omega arith))
 
-  pub secr-right : SECR (dataset vs) (datasetOf vs) ≡ crc (sealed (dataset vs) (datasetOf vs))
+  pub secr-right : SECR (dataset vs) (datasetOf vs) ≡ crc (beforeSECR (dataset vs) (datasetOf vs))
   secr-right =
       let b = crc-small (bodyOf vs) in
       let p = last-byte vs 0 in
@@ -173,12 +173,12 @@ module _ (d : List ℕ) (bytes : Bytes d) (room : ℕ) (k : encodeNumber (values
           past : 8 * (datasetOf (valuesIn d) - 2) ≤ i → bit (take (datasetOf (valuesIn d) - 2) d) i ≡ 0
           past l = bit-past (take (datasetOf (valuesIn d) - 2) d) i (omega (arith, length-take (datasetOf (valuesIn d) - 2) d))
 
-  last-is : SECR d (datasetOf (valuesIn d)) ≡ crc (sealed d (datasetOf (valuesIn d)))
-      → drop (datasetOf (valuesIn d) - 2) d ≡ secrBytes (crc (sealed d (datasetOf (valuesIn d))))
+  last-is : SECR d (datasetOf (valuesIn d)) ≡ crc (beforeSECR d (datasetOf (valuesIn d)))
+      → drop (datasetOf (valuesIn d) - 2) d ≡ secrBytes (crc (beforeSECR d (datasetOf (valuesIn d))))
   last-is s =
       let t = taken (valuesIn d) room k in
       let m : ℕ = datasetOf (valuesIn d) - 2 in
-      let x : ℕ = crc (sealed d (datasetOf (valuesIn d))) in
+      let x : ℕ = crc (beforeSECR d (datasetOf (valuesIn d))) in
       two-of (drop m d) x (omega (arith, length-drop m d))
       (getD-drop m d 0 0 ∙ omega (arith, two-bytes d m (bytes (m + 0)) (bytes (m + 1)), bytes (m + 0), bytes (m + 1)))
       (getD-drop m d 1 0 ∙ omega (arith, two-bytes d m (bytes (m + 0)) (bytes (m + 1)), bytes (m + 0), bytes (m + 1)))
@@ -191,17 +191,17 @@ module _ (d : List ℕ) (bytes : Bytes d) (room : ℕ) (k : encodeNumber (values
 
   -- encoding what was decoded gives the bytes back exactly where the padding is zero and SECR right
   pub encode-decode : (dataset (valuesIn d) ≡ d)
-      ↔ ((padding d (datasetOf (valuesIn d)) ≡ 0) × (SECR d (datasetOf (valuesIn d)) ≡ crc (sealed d (datasetOf (valuesIn d)))))
+      ↔ ((padding d (datasetOf (valuesIn d)) ≡ 0) × (SECR d (datasetOf (valuesIn d)) ≡ crc (beforeSECR d (datasetOf (valuesIn d)))))
   encode-decode = (there, back)
     where
-      there : dataset (valuesIn d) ≡ d → (padding d (datasetOf (valuesIn d)) ≡ 0) × (SECR d (datasetOf (valuesIn d)) ≡ crc (sealed d (datasetOf (valuesIn d))))
+      there : dataset (valuesIn d) ≡ d → (padding d (datasetOf (valuesIn d)) ≡ 0) × (SECR d (datasetOf (valuesIn d)) ≡ crc (beforeSECR d (datasetOf (valuesIn d))))
       there e = (
         ap (λ (l : List ℕ). padding l (datasetOf (valuesIn d))) (sym e) ∙ padding-zero (valuesIn d) room k,
         ap (λ (l : List ℕ). SECR l (datasetOf (valuesIn d))) (sym e) ∙ secr-right (valuesIn d) room k
-            ∙ ap (λ (l : List ℕ). crc (sealed l (datasetOf (valuesIn d)))) e,
+            ∙ ap (λ (l : List ℕ). crc (beforeSECR l (datasetOf (valuesIn d)))) e,
       )
 
-      back : (padding d (datasetOf (valuesIn d)) ≡ 0) × (SECR d (datasetOf (valuesIn d)) ≡ crc (sealed d (datasetOf (valuesIn d)))) → dataset (valuesIn d) ≡ d
+      back : (padding d (datasetOf (valuesIn d)) ≡ 0) × (SECR d (datasetOf (valuesIn d)) ≡ crc (beforeSECR d (datasetOf (valuesIn d)))) → dataset (valuesIn d) ≡ d
       back p =
           made (valuesIn d) (front-is (p .0)) ∙ ap (λ (z : List ℕ). take (datasetOf (valuesIn d) - 2) d ++ z) (sym (last-is (p .1)))
           ∙ take-append-drop (datasetOf (valuesIn d) - 2) d

@@ -66,5 +66,5 @@ abbrev pub SECR : List ℕ → ℕ → ℕ
 SECR d n = field d (8 * (n - 2)) 16
 
 -- the bytes that SECR is computed over
-abbrev pub sealed : List ℕ → ℕ → List ℕ
-sealed d n = take (n - 2) d
+abbrev pub beforeSECR : List ℕ → ℕ → List ℕ
+beforeSECR d n = take (n - 2) d

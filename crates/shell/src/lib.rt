@@ -13,6 +13,7 @@ ghost use Rattle.shell.specs.Shell.{datasetOf, decimal};
 ghost use Rattle.shell.specs.Encode.{decodeOf, encodeNumber, bodyOf, dataset, encodeIn};
 
 // The sixteen values in the order of document 01.
+#[repr(C)]
 pub struct Shell {
     pub values: [u64; 16],
 }

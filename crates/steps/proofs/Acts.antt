@@ -1,14 +1,12 @@
 -- What a step does: nothing, or it stores within one region of its product, which spares all that the image's rules look at but the end of
 -- its own chain. Assumes nothing.
-use mathlib.Core.Path.{_≡_, refl, sym, ap, _∙_}
-use mathlib.Core.Logic.{_↔_, inl, inr}
+use mathlib.Core.Path.{_≡_, refl}
 use mathlib.Core.Bool.{Bool, true, false}
-use mathlib.Core.List.{List, [], _∷_}
-use Prim.Native.Nat.{ℕ, zero, suc, _+_, _-_, _*_, _≤_, _<_}
+use mathlib.Core.List.{List, []}
+use Prim.Native.Nat.{ℕ, zero, suc, _+_, _-_, _*_, _≤_}
 use native.Mathlib.Decide.{decLt}
 use native.Mathlib.Omega.{arith}
-use lib.ListN.{length}
-use Rattle.bits.specs.Bits.{Bytes, field, store}
+use Rattle.bits.specs.Bits.{Bytes, field}
 use Rattle.bits.proofs.Laws.{field-store}
 use Rattle.fields.specs.declared.Span.{Span}
 use Rattle.fields.specs.Lists.{span, listOf, startOf, endOf, nth}
@@ -23,11 +21,11 @@ use Rattle.chains.proofs.PsiLaws.{psi-is}
 use Rattle.rules.specs.Claim.{Kept, first}
 use Rattle.rules.proofs.ClaimLaws.{Numbered, found, Found, none, one, kept-fails}
 use Rattle.ticket.specs.Kind.{kind}
-use Rattle.image.specs.Image.{B, S, sectorAt, isProduct, element, sectors, mark}
-use Rattle.image.specs.Rules.{Verdict, verdict}
+use Rattle.image.specs.Image.{S, sectorAt, isProduct, element, sectors, mark}
+use Rattle.image.specs.Rules.{verdict}
 use Rattle.image.specs.Bounds.{Bounds}
 use Rattle.image.specs.Obeys.{IsProduct, Obeys}
-use Rattle.image.specs.Product.{Product, Seen, refused, missing, there, elementAt, productAt, seen}
+use Rattle.image.specs.Product.{Product, refused, elementAt, productAt, seen}
 use Rattle.image.proofs.Exact.{test-product, product-test, product-sector, accepts}
 use Rattle.image.proofs.Accepted.{obeys-bounds}
 use Rattle.image.proofs.Same.{Spares, Same, same, spares-sector, spares-element, element-in}
@@ -57,7 +55,7 @@ pub data Act (c : List ℕ) (s : Step) : Type 0 where
   idle : placesOf (seen c (owner s)) s ≡ [] → 1 ≤ answer c s .number → Act c s
   acts : Taken c s → Act c s
 
-kept-first : (p : Product) (s : Step) → first (stepRules p s) ≡ 0 → Kept (stepRules p s)
+pub kept-first : (p : Product) (s : Step) → first (stepRules p s) ≡ 0 → Kept (stepRules p s)
 kept-first p s e = go (found (stepRules p s) (numbered p s)) e
   where
     go : {n : ℕ} → Found (stepRules p s) n → n ≡ 0 → Kept (stepRules p s)

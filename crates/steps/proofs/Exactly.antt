@@ -1,6 +1,6 @@
 -- A step is refused with a number exactly when the row of that number says so, and taken exactly when none does: the rules of a step are the
 -- rows, and the first that does not hold decides. Assumes nothing.
-use mathlib.Core.Path.{_≡_, refl, sym, ap, _∙_}
+use mathlib.Core.Path.{_≡_, refl, sym, _∙_}
 use mathlib.Core.Logic.{_≢_, _↔_, _⊎_, inl, inr, ⊎-elim}
 use mathlib.Core.Bool.{Bool, true, false, true≢false}
 use mathlib.Core.List.{List, [], _∷_}
@@ -9,7 +9,7 @@ use native.Mathlib.Decide.{decLt, ℕ-discrete}
 use native.Mathlib.Omega.{arith}
 use lib.ListN.{length, getD}
 use Rattle.bits.proofs.Laws.{lt-or-le}
-use Rattle.fields.proofs.Laws.{First, Found, none, at, above-found}
+use Rattle.fields.proofs.Laws.{Found, none, at, above-found}
 use Rattle.rules.specs.Claim.{_≤?_, _and_, Rule, rule, Fails, here, later, first}
 use Rattle.rules.proofs.ClaimLaws as CL
 use Rattle.rules.proofs.ClaimLaws.{kept-fails, fails-one}
@@ -18,15 +18,15 @@ use Rattle.chains.proofs.Laws.{last-ends}
 use Rattle.ticket.specs.Kind.{kind, typ, revision, leastOf, countOf, mostOf, limit}
 use Rattle.fields.specs.Fields.{limits}
 use Rattle.image.specs.Image.{S, isProduct, element, mark}
-use Rattle.image.specs.Rules.{Verdict, verdict}
+use Rattle.image.specs.Rules.{verdict}
 use Rattle.image.specs.Obeys.{IsProduct, Obeys, Says, accepted}
 use Rattle.image.specs.Product.{Product, productAt, seen}
-use Rattle.image.proofs.Exact.{test-product, product-test, says, says-one, accepts, exact}
+use Rattle.image.proofs.Exact.{test-product, product-test, says, accepts, exact}
 use Rattle.image.proofs.Stays.{chain-of}
 use Rattle.steps.specs.Step.{Step, write, writeAll, setMark, owner}
 use Rattle.steps.specs.Steps.{writeRules, fieldRule, recordRule, stepRules, answer}
 use Rattle.steps.specs.Refuses as R
-use Rattle.steps.specs.Refuses.{Present, Blocked, OtherKind, WrongExtent, NoField, BadRecord, Writes, a-field, a-record, Writable, Refuses, image, no-product}
+use Rattle.steps.specs.Refuses.{Present, Blocked, OtherKind, WrongExtent, NoField, BadRecord, a-field, a-record, Writable, Refuses, image, no-product}
 use Rattle.steps.proofs.Acts.{numbered}
 
 -- ---- numbers

@@ -1,16 +1,15 @@
 -- The frame: a field write alters its field's bits alone, a record write bits 16 to 231 of its product, a mark the one table element of its
 -- chain's last sector; so no step alters a bit outside its chain's sectors and that element, and a refused one none. Assumes nothing.
-use mathlib.Core.Path.{_≡_, refl, ap}
+use mathlib.Core.Path.{_≡_, ap}
 use mathlib.Core.Logic.{inl, inr, ⊎-elim}
 use mathlib.Core.List.{List, [], _∷_}
-use Prim.Native.Nat.{ℕ, _+_, _-_, _*_, _≤_, _<_}
+use Prim.Native.Nat.{ℕ, _+_, _-_, _*_}
 use native.Mathlib.Omega.{arith}
 use lib.ListN.{length}
 use Rattle.bits.specs.Bits.{Bytes, bit}
 use Rattle.bits.proofs.Laws.{Outside}
 use Rattle.fields.specs.declared.Span.{Span}
 use Rattle.fields.specs.Lists.{listOf, nth}
-use Rattle.fields.specs.Fields.{stores}
 use Rattle.fields.specs.Shifted.{shifted}
 use Rattle.fields.proofs.Only.{Only, only-stores}
 use Rattle.fields.proofs.Laws.{length-stores}
@@ -22,7 +21,7 @@ use Rattle.image.specs.Product.{elementAt, productAt}
 use Rattle.image.proofs.Stays.{chain-of}
 use Rattle.image.proofs.First.{first-in}
 use Rattle.steps.specs.Step.{Step, write, writeAll, setMark, owner}
-use Rattle.steps.specs.Steps.{answer, next}
+use Rattle.steps.specs.Steps.{next}
 use Rattle.steps.proofs.Acts.{Taken, Act, idle, acts, act, only, next-is, refused-same}
 use Rattle.steps.proofs.Keeps.{Where, body, link, where-is}
 

@@ -5,7 +5,7 @@ use mathlib.Core.Path.{_≡_, refl, sym, ap, ap₂, _∙_}
 use mathlib.Core.Logic.{_≢_, inl, inr}
 use mathlib.Core.Bool.{Bool, true, false}
 use mathlib.Core.List.{List, [], _∷_, _++_}
-use Prim.Native.Nat.{ℕ, zero, suc, _+_, _-_, _*_, _≤_, _<_}
+use Prim.Native.Nat.{ℕ, _+_, _-_, _*_, _≤_}
 use native.Mathlib.Nat.{add-zero}
 use native.Mathlib.Decide.{decLt}
 use native.Mathlib.Omega.{arith}
@@ -18,11 +18,11 @@ use Rattle.fields.specs.Lists.{span}
 use Rattle.fields.specs.Fields.{valueAt, stores}
 use Rattle.fields.proofs.Laws.{bytes-stores}
 use Rattle.fields.proofs.Only.{only-part}
-use Rattle.chains.specs.Chain.{Sector, In, lastOf}
+use Rattle.chains.specs.Chain.{Sector, In}
 use Rattle.chains.specs.Psi.{Ψ}
 use Rattle.chains.proofs.Laws.{last-in, chain-sectors}
 use Rattle.image.specs.Image.{B, S, e#, sectorAt, entryAt, tableAt, isProduct, element, sectors, mark, sector, joined, product}
-use Rattle.image.specs.Rules.{Verdict, verdict}
+use Rattle.image.specs.Rules.{verdict}
 use Rattle.image.specs.Obeys.{IsProduct, Obeys, accepted}
 use Rattle.image.specs.Product.{Product, elementAt, productAt, seenBy, seen}
 use Rattle.image.proofs.Exact.{test-product, product-sector, exact}
@@ -32,7 +32,7 @@ use Rattle.image.proofs.First.{first-in, product-first, product-size}
 use Rattle.steps.specs.Step.{Step, write, writeAll, setMark, owner}
 use Rattle.steps.specs.Steps.{next}
 use Rattle.steps.specs.Touched.{forty}
-use Rattle.steps.proofs.Acts.{Taken, Act, idle, acts, act, region, tail, newMark, only, own-sector, tail-sector, in-bounds, kept-same, old-end, new-end}
+use Rattle.steps.proofs.Acts.{Taken, region, tail, newMark, only, tail-sector, in-bounds, kept-same, old-end, new-end}
 
 pub bytes-next : (c : List ℕ) (s : Step) → Bytes c → Bytes (next c s)
 unfolding next

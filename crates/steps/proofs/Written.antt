@@ -1,13 +1,13 @@
 -- What was written is read: a taken write stores the ticket's list, or one place of it, into the product itself, and the laws of lists say
 -- what its fields are then. A step taken twice is the step taken once. Assumes nothing.
 use mathlib.Core.Path.{_≡_, refl, sym, ap, ap₂, _∙_}
-use mathlib.Core.Logic.{_≢_, inl, inr, ⊎-elim}
+use mathlib.Core.Logic.{inr}
 use mathlib.Core.List.{List, [], _∷_, _++_}
-use Prim.Native.Nat.{ℕ, zero, suc, _+_, _-_, _*_, _^_, _≤_, _<_}
+use Prim.Native.Nat.{ℕ, _+_, _-_, _*_, _≤_, _<_}
 use native.Mathlib.Nat.{mul-le-mul-right}
 use native.Mathlib.Decide.{ℕ-discrete}
 use native.Mathlib.Omega.{arith}
-use lib.ListN.{length, getD, set, take, drop, length-set}
+use lib.ListN.{length, getD, set, drop}
 use lib.Seq.{getD-set-same, getD-set-other}
 use Rattle.bits.specs.Bits.{Bytes, field, store}
 use Rattle.bits.proofs.Laws.{store-store, store-field, bytes-take, bytes-drop}
@@ -16,23 +16,22 @@ use Rattle.fields.specs.Lists.{listOf, nth}
 use Rattle.fields.specs.Fields.{fields, stores, limitOf, limits}
 use Rattle.fields.specs.Shifted.{shifted}
 use Rattle.fields.proofs.Joined.{lists-joined}
-use Rattle.fields.proofs.Laws.{Fit, fit-of, AllLow, getD-limits, length-limits, fields-stores, fields-store, length-fields, length-stores}
-use Rattle.fields.proofs.Only.{Inside, joined-inside}
+use Rattle.fields.proofs.Laws.{Fit, getD-limits, length-limits, fields-stores, fields-store, length-stores}
+use Rattle.fields.proofs.Only.{Inside}
 use Rattle.fields.proofs.Parts.{part, around, around-part, stores-part, part-stores, stores-left, stores-again}
-use Rattle.chains.specs.Chain.{Sector, Ends, fresh, used, blocked, In, Distinct, lastOf}
+use Rattle.chains.specs.Chain.{Sector, Ends, fresh, used, blocked, In, Distinct}
 use Rattle.chains.proofs.Laws.{chain-sectors}
 use Rattle.ticket.specs.Kind.{kind, mostOf, limit}
 use Rattle.image.specs.Image.{B, S, sectorAt, element, sectors, mark, sector, joined, product}
 use Rattle.image.specs.Obeys.{IsProduct, Obeys}
 use Rattle.image.specs.Product.{Seen, elementAt, productAt, seen}
-use Rattle.image.proofs.Exact.{product-sector}
 use Rattle.image.proofs.Same.{before-directory}
 use Rattle.image.proofs.Stays.{chain-of}
 use Rattle.image.proofs.First.{sectors-head, length-sector, bytes-joined, product-size}
 use Rattle.steps.specs.Step.{Step, write, writeAll, setMark, owner}
-use Rattle.steps.specs.Steps.{stepRules, answerOf, answer, target, values, placesOf, valuesOf, next}
+use Rattle.steps.specs.Steps.{stepRules, answer, target, values, placesOf, valuesOf, next}
 use Rattle.steps.proofs.Acts.{Taken, Act, idle, acts, act, next-is, refused-same, kept-taken, numbers, place-inside, ticket-inside, kept-mark, own-sector, in-bounds, kept-same, old-end, newMark}
-use Rattle.steps.proofs.Keeps.{stays, sectors-kept, joined-kept, mark-own, mark-kept, seen-marked, bytes-next}
+use Rattle.steps.proofs.Keeps.{sectors-kept, joined-kept, mark-own, mark-kept, seen-marked, bytes-next}
 
 -- ---- limits
 

@@ -26,7 +26,7 @@ fieldRule n = rule 25 (1 ≤? n and n ≤? countOf kind)
 abbrev pub recordRule : List ℕ → Rule
 recordRule vs = rule 26 (length vs ≡? countOf kind and every (countOf kind) λ i. getD vs i 0 ≤? limit kind (i + 1))
 
--- after the image's own numbers and 20; "a mark 20, 28, 27", where 27 meets mark 1 on a blocked chain alone
+-- after the image's own numbers and 20; "a mark 20, 28, 27", where 27 meets mark 1 on a blocked chain alone: a mark may not fall below the one that is there
 unfoldable pub stepRules : Product → Step → List Rule
 stepRules p (write j n v) = writeRules p (fieldRule n ∷ rule 26 (v ≤? limit kind n) ∷ [])
 stepRules p (writeAll j vs) = writeRules p (recordRule vs ∷ [])

@@ -3,7 +3,7 @@
 use mathlib.Core.Path.{_≡_, refl}
 use mathlib.Core.List.{List, [], _∷_, _++_}
 use Prim.Native.Nat.{ℕ}
-use lib.ListN.{replicate, length, drop}
+use lib.ListN.{replicate, length}
 use lib.Count.{leadingZeros}
 use Rattle.bits.specs.Bits.{digit, bit, number, field, bytes, stored, store}
 use Rattle.fields.specs.Fields.{fields}
@@ -15,7 +15,7 @@ use Rattle.chains.specs.Psi.{Ψ, tableBytes}
 use Rattle.crc.specs.Crc.{clock, clocks, register, crc}
 use Rattle.rules.specs.Claim.{all, first}
 use Rattle.rules.specs.Lowest.{lowest}
-use Rattle.image.specs.Image.{stated, version, copy, shellValues, dataset, B, S, e#, SCTL, shellPad, SECR, sealed, sectorAt, directoryAt, entryAt, tableAt, isProduct, element, tablePad, chain, sectors, mark, sector, joined, product}
+use Rattle.image.specs.Image.{stated, version, copy, shellValues, dataset, B, S, e#, SCTL, shellPad, SECR, beforeSECR, sectorAt, directoryAt, entryAt, tableAt, isProduct, element, tablePad, chain, sectors, mark, sector, joined, product}
 use Rattle.image.specs.Rules.{rules, brokenAt, sharesAt, Verdict, verdict}
 
 abbrev pub at : ℕ → ℕ → Verdict
@@ -39,7 +39,7 @@ card a b = 0x04 ∷ 0x04 ∷ 1 ∷ 0 ∷ shellSector ++ (replicate 832 0 ++ (dir
 
 -- the verdict, with all that it stands on opened
 unfoldable pub judge : List ℕ → Verdict
-unfolding verdict rules first all stated version copy shellValues fields dataset B S e# SCTL shellPad SECR sealed sectorAt directoryAt entryAt tableAt isProduct Ψ tableBytes element tablePad chain sectors brokenAt products.brokenAt member meet some sharesAt products.sharesAt lowest field number bit digit leadingZeros walk link crc register clocks clock
+unfolding verdict rules first all stated version copy shellValues fields dataset B S e# SCTL shellPad SECR beforeSECR sectorAt directoryAt entryAt tableAt isProduct Ψ tableBytes element tablePad chain sectors brokenAt products.brokenAt member meet some sharesAt products.sharesAt lowest field number bit digit leadingZeros walk link crc register clocks clock
 judge c = verdict c
 
 size : length (card 0x32 0xF0) ≡ 1028

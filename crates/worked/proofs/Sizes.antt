@@ -5,7 +5,6 @@ use mathlib.Core.List.{List, [], _∷_, _++_}
 use Prim.Native.Nat.{ℕ}
 use lib.ListN.{replicate, length}
 use Rattle.image.specs.Obeys.{Obeys}
-use Rattle.image.specs.Rules.{verdict}
 use Rattle.image.proofs.Exact.{accepts}
 use Rattle.worked.proofs.Cards.{judge}
 

@@ -1,6 +1,6 @@
 -- `chains::table_bytes` meets its contract: below four sectors a table has no element. Assumes nothing.
-use mathlib.Core.Path.{_≡_, refl}
-use Prim.Native.Nat.{ℕ, _*_, _-_, _/_, _+_, _<_, _≤_}
+use mathlib.Core.Path.{_≡_}
+use Prim.Native.Nat.{ℕ, _*_, _-_, _<_, _≤_}
 use native.Mathlib.Omega.{arith}
 use native.Mathlib.Nat.{mul-le-mul, mul-zero}
 use borrow.Author.Needs.{needs}

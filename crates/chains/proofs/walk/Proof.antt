@@ -1,11 +1,9 @@
 -- `chains::walk` meets its contract: what `last` gives is taken apart, and the last sector's element has the mark. Assumes nothing.
-use mathlib.Core.Path.{_≡_, ap, _∙_}
+use mathlib.Core.Path.{ap, _∙_}
 use Prim.Native.Nat.{ℕ, _-_, _/_, _%_}
-use native.Mathlib.Omega.{arith}
 use borrow.Author.Needs.{needs}
 use Rattle.chains.specs.Chain.{walk}
 use Rattle.chains.specs.Packed.{packed, markSaid}
-use Rattle.chains.specs.declared.Walked.{Walked}
 use Rattle.chains.specs.declared.Walked.the-variants as W
 use Rattle.chains.proofs.Unfold.{left-none, left-some, Taken}
 use Rattle.chains.proofs.walk.Statement.{statement}

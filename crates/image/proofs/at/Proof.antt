@@ -1,5 +1,4 @@
-use mathlib.Core.Path.{_≡_}
-use native.Mathlib.Omega.{arith}
+-- `image::at` meets its contract: a field of w bits is below 2 to the w. Assumes nothing.
 use Rattle.bits.proofs.Laws.{field-lt}
 use borrow.Author.Needs.{needs}
 use Rattle.image.proofs.at.Statement.{statement}

@@ -7,12 +7,12 @@ use Prim.Native.Nat.{ℕ, _≤_, _<_, _-_, _+_, _%_}
 use native.Mathlib.Omega.{arith}
 use borrow.Author.Count.{below-more}
 use borrow.Author.Needs.{needs}
-use lib.ListN.{length, getD, set, length-set}
+use lib.ListN.{length, length-set}
 use Rattle.rules.proofs.LowestLaws.{lowest-here, lowest-none}
 use Rattle.chains.proofs.Seen.{Seen, seen-none, seen-skip, seen-hit, seen-add}
-use Rattle.image.specs.Image.{S, e#}
+use Rattle.image.specs.Image.{e#}
 use Rattle.image.specs.Rules.{sharesAt, brokenAt}
-use Rattle.image.proofs.Entries.{lastAt, last-small, shares-meets, meets-shares, no-number, number-broken, number-ends}
+use Rattle.image.proofs.Entries.{lastAt, shares-meets, meets-shares, no-number, number-broken, number-ends}
 use Rattle.image.proofs.Verdict.{says-broken, says-shared, says-none}
 use Rattle.image.proofs.chains.Statement.{statement}
 use Rattle.image.proofs.chains.Tie as tie

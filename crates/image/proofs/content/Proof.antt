@@ -1,10 +1,10 @@
 -- `image::content` meets its contract: each test is that of its rule, and the shell's bytes start at byte 4. Assumes nothing.
-use mathlib.Core.Path.{_≡_}
 use Prim.Native.Nat.{_-_, _*_}
 use Rattle.bits.proofs.Laws.{field-drop}
 use Rattle.rules.specs.Claim.{first}
-use Rattle.image.specs.Image.{shellPad, dataset}
+use Rattle.image.specs.Image.{shellPad, shellValues, dataset}
 use borrow.Author.Needs.{needs}
+use Rattle.fields.specs.Fields.{fields}
 use Rattle.image.proofs.content.Statement.{statement}
 use Rattle.image.proofs.content.Tie as tie
 
@@ -50,18 +50,18 @@ digits-requires-3 c κs = search needs
 need-requires-5 : tie.Need-need-requires-5
 need-requires-5 c κs = search needs
 
-sealed-right-requires : tie.Need-sealed-right-requires
-sealed-right-requires c κs = search needs
+secr-right-requires : tie.Need-secr-right-requires
+secr-right-requires c κs = search needs
 
 need-requires-6 : tie.Need-need-requires-6
 need-requires-6 c κs = search needs
 
 returns : tie.Need-returns
-unfolding first shellPad
+unfolding first shellPad shellValues fields
 returns c =
     let o = c .before .before .before .before .before .before .before .before .before .before .before .before .before .before .before .before .before in
     let m = o .args .image .now in
-    rw (c .need6 .ensures, c .before .sealed-right .ensures, c .before .before .need5 .ensures, c .before .before .before .digits3 .ensures, c .before .before .before .before .of-shell3 .ensures .0, c .before .before .before .before .before .need4 .ensures, c .before .before .before .before .before .before .digits2 .ensures, c .before .before .before .before .before .before .before .of-shell2 .ensures .0, c .before .before .before .before .before .before .before .before .need3 .ensures, c .before .before .before .before .before .before .before .before .before .digits .ensures, c .before .before .before .before .before .before .before .before .before .before .of-shell .ensures .0, c .before .before .before .before .before .before .before .before .before .before .before .need2 .ensures, c .before .before .before .before .before .before .before .before .before .before .before .before .zeros .ensures, c .before .before .before .before .before .before .before .before .before .before .before .before .before .before .need .ensures, c .before .before .before .before .before .before .before .before .before .before .before .before .before .before .before .table-pad .ensures, o .pre .dataset-is, field-drop m 4 160 (8 * (dataset m - 22)))
+    rw (c .need6 .ensures, c .before .secr-right .ensures, c .before .before .need5 .ensures, c .before .before .before .digits3 .ensures, c .before .before .before .before .of-shell3 .ensures .0, c .before .before .before .before .before .need4 .ensures, c .before .before .before .before .before .before .digits2 .ensures, c .before .before .before .before .before .before .before .of-shell2 .ensures .0, c .before .before .before .before .before .before .before .before .need3 .ensures, c .before .before .before .before .before .before .before .before .before .digits .ensures, c .before .before .before .before .before .before .before .before .before .before .of-shell .ensures .0, c .before .before .before .before .before .before .before .before .before .before .before .need2 .ensures, c .before .before .before .before .before .before .before .before .before .before .before .before .zeros .ensures, c .before .before .before .before .before .before .before .before .before .before .before .before .before .before .need .ensures, c .before .before .before .before .before .before .before .before .before .before .before .before .before .before .before .table-pad .ensures, o .pre .dataset-is, field-drop m 4 160 (8 * (dataset m - 22)))
 
 pub content-spec : {M : Type 1} → statement M
 content-spec =
@@ -81,6 +81,6 @@ content-spec =
     of-shell-requires-3
     digits-requires-3
     need-requires-5
-    sealed-right-requires
+    secr-right-requires
     need-requires-6
     returns)

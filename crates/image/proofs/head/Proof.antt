@@ -1,3 +1,4 @@
+-- `image::head` meets its contract: each test is that of its rule. Assumes nothing.
 use borrow.Author.Tests.{lt-leb, le-leb}
 use Rattle.rules.specs.Claim.{first}
 use Rattle.image.specs.Image.{stated, version, copy}
@@ -9,14 +10,14 @@ returns : tie.Need-returns
 unfolding first
 returns c = rw (lt-leb _ _ (c .if1 .taken))
 
-of-head-requires : tie.Need-of-head-requires
-of-head-requires c κs = search needs
+at-requires : tie.Need-at-requires
+at-requires c κs = search needs
 
-of-head-requires-2 : tie.Need-of-head-requires-2
-of-head-requires-2 c κs = search needs
+at-requires-2 : tie.Need-at-requires-2
+at-requires-2 c κs = search needs
 
-of-head-requires-3 : tie.Need-of-head-requires-3
-of-head-requires-3 c κs = search needs
+at-requires-3 : tie.Need-at-requires-3
+at-requires-3 c κs = search needs
 
 need-requires : tie.Need-need-requires
 need-requires c κs = search needs
@@ -39,9 +40,9 @@ head-spec =
     tie.close
     (tie.spec
     returns
-    of-head-requires
-    of-head-requires-2
-    of-head-requires-3
+    at-requires
+    at-requires-2
+    at-requires-3
     need-requires
     need-requires-2
     need-requires-3

@@ -1,5 +1,5 @@
 -- `image::last_of` meets its contract: the shape's table is that of the image. Assumes nothing.
-use mathlib.Core.Path.{_≡_, _∙_}
+use mathlib.Core.Path.{_∙_}
 use borrow.Author.Needs.{needs}
 use Rattle.image.proofs.Shapes.{inside, last-is}
 use Rattle.image.proofs.last_of.Statement.{statement}

@@ -1,6 +1,8 @@
+-- `image::sizes` meets its contract: each test is that of its rule, in the order of the rules. Assumes nothing.
 use Rattle.rules.specs.Claim.{first}
-use Rattle.image.specs.Image.{dataset, B, S, e#, SCTL}
+use Rattle.image.specs.Image.{shellValues, dataset, B, S, e#, SCTL}
 use borrow.Author.Needs.{needs}
+use Rattle.fields.specs.Fields.{fields}
 use Rattle.image.proofs.sizes.Statement.{statement}
 use Rattle.image.proofs.sizes.Tie as tie
 
@@ -71,7 +73,7 @@ need-requires-9 : tie.Need-need-requires-9
 need-requires-9 c κs = search needs
 
 returns : tie.Need-returns
-unfolding first dataset B S e# SCTL
+unfolding first shellValues fields dataset B S e# SCTL
 returns c =
     rw (c .need9 .ensures, c .before .need8 .ensures, c .before .before .need7 .ensures, c .before .before .before .need6 .ensures, c .before .before .before .before .need5 .ensures, c .before .before .before .before .before .minus .ensures, c .before .before .before .before .before .before .need4 .ensures, c .before .before .before .before .before .before .before .table-bytes .ensures, c .before .before .before .before .before .before .before .before .need3 .ensures, c .before .before .before .before .before .before .before .before .before .need2 .ensures, c .before .before .before .before .before .before .before .before .before .before .need .ensures, c .before .before .before .before .before .before .before .before .before .before .before .whole .ensures .0, c .before .before .before .before .before .before .before .before .before .before .before .before .of-shell6 .ensures .0, c .before .before .before .before .before .before .before .before .before .before .before .before .before .of-shell5 .ensures .0, c .before .before .before .before .before .before .before .before .before .before .before .before .before .before .of-shell4 .ensures .0, c .before .before .before .before .before .before .before .before .before .before .before .before .before .before .before .of-shell3 .ensures .0, c .before .before .before .before .before .before .before .before .before .before .before .before .before .before .before .before .of-shell2 .ensures .0, c .before .before .before .before .before .before .before .before .before .before .before .before .before .before .before .before .before .of-shell .ensures .0)
 

@@ -1,5 +1,4 @@
-use mathlib.Core.Path.{_≡_, refl, _∙_}
-use native.Mathlib.Omega.{arith}
+-- `image::walk_of` meets its contract: the shape's table is that of the image. Assumes nothing.
 use Rattle.image.proofs.Shapes.{inside, walked-is}
 use borrow.Author.Needs.{needs}
 use Rattle.image.proofs.walk_of.Statement.{statement}

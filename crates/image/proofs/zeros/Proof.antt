@@ -1,34 +1,18 @@
 -- `image::zeros` meets its contract: the bytes passed carry 0 exactly where each is 0.
 -- Assumes nothing.
-use mathlib.Core.Path.{_≡_, refl, sym}
-use mathlib.Core.Bool.{Bool, true, false, _&&_}
-use mathlib.Core.List.{List}
-use Prim.Native.Nat.{ℕ, zero, suc, _+_, _-_, _*_, _<_, _≤_}
+use mathlib.Core.Path.{_≡_}
+use Prim.Native.Nat.{_+_, _-_, _*_, _≤_}
 use native.Mathlib.Omega.{arith}
-use lib.ListN.{length, getD}
 use lib.Dec.{eqb}
 use borrow.Author.Needs.{needs}
-use borrow.Author.Tests.{eq-eqb, ne-eqb, eqb-true, eqb-false}
+use Rattle.image.proofs.ZeroBytes.{turn}
 use Rattle.bits.specs.Bits.{field}
-use Rattle.bits.proofs.Laws.{field-next, field-zero}
+use Rattle.bits.proofs.Laws.{field-zero}
 use Rattle.image.proofs.zeros.Statement.{statement}
 use Rattle.image.proofs.zeros.Tie as tie
 
 abbrev Inv-loop : tie.InvT-loop
 Inv-loop image from count ok₀ k₀ ok k = (k ≤ count) × (ok ≡ eqb (field image (8 * from) (8 * k)) 0)
-
--- a number is 0 where both its parts are
-parts : (a b : ℕ) → (eqb a 0 && eqb b 0) ≡ eqb (a * 256 + b) 0
-parts a b = go (eqb a 0) refl (eqb b 0) refl
-  where
-    go : (x : Bool) → eqb a 0 ≡ x → (y : Bool) → eqb b 0 ≡ y → (x && y) ≡ eqb (a * 256 + b) 0
-    go true p true q = sym (eq-eqb (a * 256 + b) 0 (omega (arith, eqb-true a 0 p, eqb-true b 0 q)))
-    go true p false q = let n = eqb-false b 0 q in sym (ne-eqb (a * 256 + b) 0 (λ e. n (omega arith)))
-    go false p y q = let n = eqb-false a 0 p in sym (ne-eqb (a * 256 + b) 0 (λ e. n (omega arith)))
-
-turn : (l : List ℕ) (from k : ℕ) (ok : Bool) → getD l (from + k) 0 < 256 → ok ≡ eqb (field l (8 * from) (8 * k)) 0
-    → (ok && eqb (getD l (from + k) 0) 0) ≡ eqb (field l (8 * from) (8 * (k + 1))) 0
-turn l from k ok h e = rw (e, field-next l from k h) (parts (field l (8 * from) (8 * k)) (getD l (from + k) 0))
 
 abbrev μ-loop : tie.MeasureT-loop
 μ-loop image from count ok₀ k₀ ok k = count - k

@@ -1,5 +1,5 @@
 -- `list::product` is safe: an entry lies within the image, and the walk that it tells of is that of its chain. Assumes nothing.
-use mathlib.Core.Path.{_≡_, sym, _∙_}
+use mathlib.Core.Path.{sym, _∙_}
 use borrow.Author.Needs.{needs}
 use Rattle.list.proofs.product.Statement.{statement}
 use Rattle.list.proofs.product.Tie as tie

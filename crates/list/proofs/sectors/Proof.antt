@@ -1,15 +1,15 @@
 -- `list::sectors` is safe: what it prints k-th is the k-th sector of the chain, so that its element can be read. Assumes nothing.
-use mathlib.Core.Path.{_≡_, sym, ap, _∙_}
-use Prim.Native.Nat.{ℕ, _-_, _+_, _≤_}
+use mathlib.Core.Path.{_≡_, ap, _∙_}
+use Prim.Native.Nat.{_-_, _+_, _≤_}
 use native.Mathlib.Omega.{arith}
 use borrow.Author.Needs.{needs}
 use lib.ListN.{getD}
 use Rattle.chains.specs.Chain.{Sector}
-use Rattle.chains.specs.Packed.{Inside, packed}
+use Rattle.chains.specs.Packed.{packed}
 use Rattle.chains.specs.declared.Table.{Table}
 use Rattle.image.specs.Image.{S, sectors}
 use Rattle.image.proofs.Shapes.{inside}
-use Rattle.image.proofs.Order.{element-is, Told, tells, first-sector, some-sector, next-sector, is-sector}
+use Rattle.image.proofs.Order.{element-is, tells, first-sector, some-sector, next-sector, is-sector}
 use Rattle.list.proofs.sectors.Statement.{statement}
 use Rattle.list.proofs.sectors.Tie as tie
 

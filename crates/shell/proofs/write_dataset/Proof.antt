@@ -5,7 +5,7 @@ use Prim.Native.Nat.{ℕ, _-_}
 use native.Mathlib.Omega.{arith}
 use lib.ListN.{length, take, drop, length-set, length-append, length-drop}
 use lib.Seq.{length-take-le}
-use Rattle.shell.proofs.Dataset.{sealed-is, length-body}
+use Rattle.shell.proofs.Dataset.{before-secr-is, length-body}
 use borrow.Author.Needs.{needs}
 use Rattle.shell.proofs.write_dataset.Statement.{statement}
 use Rattle.shell.proofs.write_dataset.Tie as tie
@@ -67,7 +67,7 @@ returns c =
     let a = c .before .before .before .before .before .before .before .before in
     let l = a .args .s .now in
     let e : ℕ = length l - 2 in
-    sealed-is (a .args .v .now) (drop e l) (w .ensures) (omega arith) (omega (arith, length-drop e l)) (c .crc .ensures)
+    before-secr-is (a .args .v .now) (drop e l) (w .ensures) (omega arith) (omega (arith, length-drop e l)) (c .crc .ensures)
 
 pub write-dataset-spec : {M : Type 1} → statement M
 write-dataset-spec =

@@ -1,0 +1,369 @@
+// The card library for C: calls, and nothing but calls. include/card.h says each in a sentence.
+use card::Answer;
+use card::ChainRead;
+use card::Changed;
+use card::Checked;
+use card::Dated;
+use card::DirectoryRead;
+use card::Elements;
+use card::Encoded;
+use card::Entry;
+use card::EntryBytes;
+use card::EntryRead;
+use card::Filled;
+use card::Head;
+use card::HeadBytes;
+use card::Header;
+use card::HeaderBytes;
+use card::Record;
+use card::Shell;
+use card::ShellRead;
+use card::Stamped;
+use card::TableRead;
+use card::Tail;
+use card::TailBytes;
+use card::TicketRead;
+use card::Value;
+use card::Written;
+ghost use mathlib.Core.Path.{_≡_};
+ghost use lib.ListN.{length};
+ghost use Rattle.shell.specs.Encode as shells;
+ghost use Rattle.directory.specs.Records as records;
+ghost use Rattle.directory.specs.Table as tables;
+ghost use Rattle.ticket.specs.Header as headers;
+ghost use Rattle.ticket.specs.Ticket as tickets;
+ghost use Rattle.image.specs.Rules.{verdict};
+ghost use Rattle.reads.specs.Card.{readShell, readDirectory, readTable};
+ghost use Rattle.reads.specs.Entry.{readEntry, readChain};
+ghost use Rattle.reads.specs.Ticket.{readTicket, bufferAfter};
+ghost use Rattle.steps.specs.Step.{write, writeAll, setMark};
+ghost use Rattle.steps.specs.Steps.{next};
+ghost use Rattle.steps.specs.Answers as steps;
+ghost use Rattle.rules.specs.Written as written;
+ghost use Rattle.dates.specs.DateAnswer as dated;
+ghost use Rattle.dates.specs.StampAnswer as stamped;
+ghost use Rattle.reads.specs.Ticket as read;
+ghost use Rattle.capi.specs.Answers.{Gives, Stepped, Wrote, Filling, Dating, Stamping};
+
+// A number and an entry, 0 and 0 for success.
+#[repr(C)]
+pub struct CardAnswer {
+    pub number: usize,
+    pub entry: usize,
+}
+
+#[repr(C)]
+pub struct CardFilled {
+    pub number: usize,
+    pub entry: usize,
+    pub end: usize,
+}
+
+#[repr(C)]
+pub struct CardDate {
+    pub number: usize,
+    pub entry: usize,
+    pub year: u64,
+    pub month: u64,
+    pub day: u64,
+}
+
+#[repr(C)]
+pub struct CardStamp {
+    pub number: usize,
+    pub entry: usize,
+    pub stamp: u64,
+}
+
+// What a step answers, as C has it.
+fn of_step(a: Answer) -> CardAnswer
+    ensures { λ r. ⌜ (r .number ≡ steps.numberOf a) × (r .entry ≡ steps.entryOf a) ⌝ }
+{
+    match a {
+        Answer::Taken => CardAnswer {
+            number: 0,
+            entry: 0,
+        },
+        Answer::Refused(number, entry) => CardAnswer { number, entry },
+    }
+}
+
+// What an encoder into a lent buffer answers, as C has it.
+fn of_written(w: Written) -> CardAnswer
+    ensures { λ r. ⌜ (r .number ≡ written.numberOf w) × (r .entry ≡ written.entryOf w) ⌝ }
+{
+    match w {
+        Written::Done => CardAnswer {
+            number: 0,
+            entry: 0,
+        },
+        Written::Refused(number, entry) => CardAnswer { number, entry },
+    }
+}
+
+// Whether the image is accepted.
+#[no_mangle]
+pub extern "C" fn card_check(image: &[u8]) -> CardAnswer
+    ensures { λ r. ⌜ Gives r (verdict (now (image .entry))) ⌝ }
+{
+    match card::check(image) {
+        Checked::Accepted(_) => CardAnswer {
+            number: 0,
+            entry: 0,
+        },
+        Checked::Refused(number, entry) => CardAnswer { number, entry },
+    }
+}
+
+#[no_mangle]
+pub extern "C" fn card_read_shell(image: &[u8]) -> ShellRead
+    ensures { λ r. ⌜ r ≡ readShell (now (image .entry)) ⌝ }
+{
+    card::read_shell(image)
+}
+
+#[no_mangle]
+pub extern "C" fn card_read_directory(image: &[u8]) -> DirectoryRead
+    ensures { λ r. ⌜ r ≡ readDirectory (now (image .entry)) ⌝ }
+{
+    card::read_directory(image)
+}
+
+#[no_mangle]
+pub extern "C" fn card_read_table(image: &[u8]) -> TableRead
+    ensures { λ r. ⌜ r ≡ readTable (now (image .entry)) ⌝ }
+{
+    card::read_table(image)
+}
+
+#[no_mangle]
+pub extern "C" fn card_read_entry(image: &[u8], entry: usize) -> EntryRead
+    ensures { λ r. ⌜ r ≡ readEntry (now (image .entry)) entry ⌝ }
+{
+    card::read_entry(image, entry)
+}
+
+#[no_mangle]
+pub extern "C" fn card_read_chain(image: &[u8], entry: usize) -> ChainRead
+    ensures { λ r. ⌜ r ≡ readChain (now (image .entry)) entry ⌝ }
+{
+    card::read_chain(image, entry)
+}
+
+#[no_mangle]
+pub extern "C" fn card_read_ticket(image: &[u8], entry: usize, buffer: &mut [u8]) -> TicketRead
+    ensures { λ r. ⌜ r ≡ readTicket (now (image .entry)) entry (length (now (buffer .entry))) ⌝ }
+    ensures { λ _. ⌜ now (buffer .exit) ≡ bufferAfter (now (image .entry)) entry (now (buffer .entry)) ⌝ }
+{
+    card::read_ticket(image, entry, buffer)
+}
+
+// Copies likewise; the dataset's end in the buffer.
+#[no_mangle]
+pub extern "C" fn card_fill(image: &[u8], entry: usize, buffer: &mut [u8]) -> CardFilled
+    ensures { λ r. ⌜ Filling r (now (image .entry)) entry (length (now (buffer .entry))) ⌝ }
+    ensures { λ _. ⌜ now (buffer .exit) ≡ bufferAfter (now (image .entry)) entry (now (buffer .entry)) ⌝ }
+{
+    match card::fill(image, entry, buffer) {
+        Filled::End(end) => CardFilled {
+            number: 0,
+            entry: 0,
+            end,
+        },
+        Filled::Refused(number, entry) => CardFilled {
+            number,
+            entry,
+            end: 0,
+        },
+    }
+}
+
+#[no_mangle]
+pub extern "C" fn card_write_field(
+    image: &mut [u8],
+    entry: usize,
+    field: usize,
+    value: u64,
+) -> CardAnswer
+    ensures { λ r. ⌜ Stepped r (now (image .entry)) (write entry field value) ⌝ }
+    ensures { λ _. ⌜ now (image .exit) ≡ next (now (image .entry)) (write entry field value) ⌝ }
+{
+    of_step(card::write_field(image, entry, field, value))
+}
+
+#[no_mangle]
+pub extern "C" fn card_write_record(
+    image: &mut [u8],
+    entry: usize,
+    values: &[u64; 22],
+) -> CardAnswer
+    ensures { λ r. ⌜ Stepped r (now (image .entry)) (writeAll entry (now (values .entry))) ⌝ }
+    ensures { λ _. ⌜ now (image .exit) ≡ next (now (image .entry)) (writeAll entry (now (values .entry))) ⌝ }
+{
+    of_step(card::write_record(image, entry, Record { values: *values }))
+}
+
+#[no_mangle]
+pub extern "C" fn card_mark(image: &mut [u8], entry: usize, mark: usize) -> CardAnswer
+    ensures { λ r. ⌜ Stepped r (now (image .entry)) (setMark entry mark) ⌝ }
+    ensures { λ _. ⌜ now (image .exit) ≡ next (now (image .entry)) (setMark entry mark) ⌝ }
+{
+    of_step(card::mark(image, entry, mark))
+}
+
+// A field of a record of values, set and read.
+#[no_mangle]
+pub extern "C" fn card_record_set(values: &[u64; 22], field: usize, value: u64) -> Changed
+    ensures { λ r. ⌜ r ≡ tickets.setOf (record { values = now (values .entry) }) field value ⌝ }
+{
+    Record { values: *values }.set(field, value)
+}
+
+#[no_mangle]
+pub extern "C" fn card_record_value(values: &[u64; 22], field: usize) -> Value
+    ensures { λ r. ⌜ r ≡ tickets.valueOf (record { values = now (values .entry) }) field ⌝ }
+{
+    Record { values: *values }.value(field)
+}
+
+// Records between values and bytes.
+#[no_mangle]
+pub extern "C" fn card_encode_shell(values: &[u64; 16], out: &mut [u8]) -> CardAnswer
+    ensures { λ r. ⌜ Wrote r (shells.encodeNumber (now (values .entry)) (length (now (out .entry)))) ⌝ }
+    ensures { λ _. ⌜ now (out .exit) ≡ shells.encodeIn (now (values .entry)) (now (out .entry)) ⌝ }
+{
+    of_written(card::encode_shell(Shell { values: *values }, out))
+}
+
+#[no_mangle]
+pub extern "C" fn card_decode_shell(bytes: &[u8; 20]) -> Shell
+    ensures { λ r. ⌜ r ≡ shells.decodeOf (now (bytes .entry)) ⌝ }
+{
+    card::decode_shell(*bytes)
+}
+
+#[no_mangle]
+pub extern "C" fn card_encode_entry(values: &[u64; 7]) -> EntryBytes
+    ensures { λ r. ⌜ r ≡ records.entryBytes (now (values .entry)) ⌝ }
+{
+    card::encode_entry(*values)
+}
+
+#[no_mangle]
+pub extern "C" fn card_decode_entry(bytes: &[u8; 5]) -> Entry
+    ensures { λ r. ⌜ r ≡ records.entryOf (now (bytes .entry)) ⌝ }
+{
+    card::decode_entry(*bytes)
+}
+
+#[no_mangle]
+pub extern "C" fn card_encode_head(values: &[u64; 3]) -> HeadBytes
+    ensures { λ r. ⌜ r ≡ records.headBytes (now (values .entry)) ⌝ }
+{
+    card::encode_head(*values)
+}
+
+#[no_mangle]
+pub extern "C" fn card_decode_head(bytes: &[u8; 2]) -> Head
+    ensures { λ r. ⌜ r ≡ records.headOf (now (bytes .entry)) ⌝ }
+{
+    card::decode_head(*bytes)
+}
+
+#[no_mangle]
+pub extern "C" fn card_encode_tail(values: &[u64; 4]) -> TailBytes
+    ensures { λ r. ⌜ r ≡ records.tailBytes (now (values .entry)) ⌝ }
+{
+    card::encode_tail(*values)
+}
+
+#[no_mangle]
+pub extern "C" fn card_decode_tail(bytes: &[u8; 6]) -> Tail
+    ensures { λ r. ⌜ r ≡ records.tailOf (now (bytes .entry)) ⌝ }
+{
+    card::decode_tail(*bytes)
+}
+
+#[no_mangle]
+pub extern "C" fn card_encode_table(s: u64, elements: &[u64], out: &mut [u8]) -> CardAnswer
+    ensures { λ r. ⌜ Wrote r (tables.encodeNumber s (now (elements .entry)) (length (now (out .entry)))) ⌝ }
+    ensures { λ _. ⌜ now (out .exit) ≡ tables.encodeIn s (now (elements .entry)) (now (out .entry)) ⌝ }
+{
+    of_written(card::encode_table(s, elements, out))
+}
+
+#[no_mangle]
+pub extern "C" fn card_decode_table(s: u64, bytes: &[u8]) -> Elements
+    ensures { λ r. ⌜ r ≡ tables.decodeOf s (now (bytes .entry)) ⌝ }
+{
+    card::decode_table(s, bytes)
+}
+
+#[no_mangle]
+pub extern "C" fn card_encode_header(values: &[u64; 3]) -> HeaderBytes
+    ensures { λ r. ⌜ r ≡ headers.headerBytes (now (values .entry)) ⌝ }
+{
+    card::encode_header(*values)
+}
+
+#[no_mangle]
+pub extern "C" fn card_decode_header(bytes: &[u8; 2]) -> Header
+    ensures { λ r. ⌜ r ≡ headers.headerOf (now (bytes .entry)) ⌝ }
+{
+    card::decode_header(*bytes)
+}
+
+#[no_mangle]
+pub extern "C" fn card_encode_ticket(values: &[u64; 22]) -> Encoded
+    ensures { λ r. ⌜ r ≡ tickets.encodeOf (record { values = now (values .entry) }) ⌝ }
+{
+    card::encode_ticket(Record { values: *values })
+}
+
+#[no_mangle]
+pub extern "C" fn card_decode_ticket(bytes: &[u8; 27]) -> Record
+    ensures { λ r. ⌜ r ≡ tickets.decodeOf (now (bytes .entry)) ⌝ }
+{
+    card::decode_ticket(*bytes)
+}
+
+// Dates.
+#[no_mangle]
+pub extern "C" fn card_date_of(stamp: u64) -> CardDate
+    ensures { λ r. ⌜ Dating r stamp ⌝ }
+{
+    match card::date(stamp) {
+        Dated::On(d) => CardDate {
+            number: 0,
+            entry: 0,
+            year: d.year,
+            month: d.month,
+            day: d.day,
+        },
+        Dated::Refused(number, entry) => CardDate {
+            number,
+            entry,
+            year: 0,
+            month: 0,
+            day: 0,
+        },
+    }
+}
+
+#[no_mangle]
+pub extern "C" fn card_stamp_of(year: u64, month: u64, day: u64) -> CardStamp
+    ensures { λ r. ⌜ Stamping r year month day ⌝ }
+{
+    match card::stamp(year, month, day) {
+        Stamped::At(stamp) => CardStamp {
+            number: 0,
+            entry: 0,
+            stamp,
+        },
+        Stamped::Refused(number, entry) => CardStamp {
+            number,
+            entry,
+            stamp: 0,
+        },
+    }
+}

@@ -1,0 +1,68 @@
+// The card library: every call and type that a validator names, and nothing else.
+// A crate that uses it lists in crates.txt the crates that declare these types, too.
+
+// Whether an image is accepted.
+pub use image::Checked;
+pub use image::Shape;
+pub use image::check;
+
+// Reading a card.
+pub use reads::ChainRead;
+pub use reads::DirectoryRead;
+pub use reads::EntryRead;
+pub use reads::Filled;
+pub use reads::ShellRead;
+pub use reads::TableRead;
+pub use reads::TicketRead;
+pub use reads::fill;
+pub use reads::read_chain;
+pub use reads::read_directory;
+pub use reads::read_entry;
+pub use reads::read_shell;
+pub use reads::read_table;
+pub use reads::read_ticket;
+pub use reads::rest;
+
+// Steps on a product, and which entries they touched.
+pub use steps::Answer;
+pub use steps::mark;
+pub use steps::write_field;
+pub use steps::write_record;
+
+// Records between values and bytes.
+pub use directory::Elements;
+pub use directory::Entry;
+pub use directory::EntryBytes;
+pub use directory::Head;
+pub use directory::HeadBytes;
+pub use directory::Tail;
+pub use directory::TailBytes;
+pub use directory::decode_entry;
+pub use directory::decode_head;
+pub use directory::decode_table;
+pub use directory::decode_tail;
+pub use directory::encode_entry;
+pub use directory::encode_head;
+pub use directory::encode_table;
+pub use directory::encode_tail;
+pub use rules::Written;
+pub use shell::Shell;
+pub use shell::decode as decode_shell;
+pub use shell::encode as encode_shell;
+pub use ticket::Changed;
+pub use ticket::Encoded;
+pub use ticket::Header;
+pub use ticket::HeaderBytes;
+pub use ticket::Record;
+pub use ticket::Value;
+pub use ticket::decode as decode_ticket;
+pub use ticket::decode_header;
+pub use ticket::encode as encode_ticket;
+pub use ticket::encode_header;
+
+// Dates.
+pub use dates::Date;
+pub use dates::Dated;
+pub use dates::Stamped;
+pub use dates::date;
+pub use dates::stamp;

@@ -1,0 +1,147 @@
+-- An example of the theorem: a card with three products and three jobs, with a refused step, a block and a record write among them. Every mix
+-- answers alike, and two mixes end alike; what each step answers is computed from the starting card. Assumes nothing.
+use mathlib.Core.Path.{_≡_, refl, sym, ap, _∙_}
+use mathlib.Core.List.{List, [], _∷_, _++_}
+use mathlib.Core.Bool.{Bool, true, false, _&&_}
+use Prim.Native.Nat.{ℕ, zero, suc}
+use native.Mathlib.Omega.{arith}
+use lib.ListN.{replicate}
+use lib.Dec.{T, ltb, ltb→lt}
+use lib.Count.{leadingZeros}
+use Rattle.bits.specs.Bits.{Bytes, digit, bit, number, field, bytes, stored, store}
+use Rattle.fields.specs.Fields.{fields, limits, stores}
+use Rattle.fields.specs.Shifted.{shifted}
+use Rattle.chains.specs.Chain.{link, walk}
+use Rattle.chains.specs.Psi.{Ψ, tableBytes}
+use Rattle.chains.specs.Products as products
+use Rattle.crc.specs.Crc.{clock, clocks, register, crc}
+use Rattle.rules.specs.Claim.{all, first}
+use Rattle.rules.specs.Lowest.{lowest}
+use Rattle.ticket.specs.Kind.{mostOf}
+use Rattle.image.specs.Image.{stated, version, copy, shellValues, dataset, B, S, e#, SCTL, shellPad, SECR, beforeSECR, sectorAt, directoryAt, entryAt, tableAt, isProduct, element, tablePad, chain, sectors, mark, sector, joined, product}
+use Rattle.image.specs.Rules.{rules, brokenAt, sharesAt, Verdict, verdict}
+use Rattle.image.specs.Product.{elementAt, productAt, seen}
+use Rattle.mixing.specs.Run.{end, log}
+use Rattle.mixing.specs.Mix.{Mix, here, there, done, turn, same, Job, lists, Separate, entriesOf}
+use Rattle.steps.specs.Step.{Step, write, writeAll, setMark, owner}
+use Rattle.steps.specs.Steps.{stepRules, says, answer, next}
+use Rattle.steps.proofs.Acts.{refused-same}
+use Rattle.jobs.specs.Demand.{card}
+use Rattle.jobs.proofs.Jobs.{jobs-mixed}
+
+-- S 6, B 33, e# 3, copy A, three tickets of TYP 23; the table says that the first is fresh and the others are used, or begins with the byte a
+unfoldable pub image : ℕ → List ℕ
+image a =
+    0x00 ∷ 0xCA ∷ 1 ∷ 0
+    ∷ 0x18 ∷ 0x01 ∷ 0x63 ∷ 0x35 ∷ 0x97 ∷ 0x12 ∷ 0x34 ∷ 0x12 ∷ 0x34 ∷ 0x56 ∷ 0x78 ∷ 0x01
+    ∷ 0x00 ∷ 0x00 ∷ 0x00 ∷ 0x64 ∷ 0x21 ∷ 0x06 ∷ 0x03 ∷ 0x02 ∷ 0x00 ∷ 0x00 ∷ 0x1F ∷ 0x82
+    ∷ (replicate 9 0 ++ (0x20 ∷ 0x02 ∷ replicate 31 0 ++ (0x20 ∷ 0x02 ∷ replicate 31 0 ++ (0x20 ∷ 0x02 ∷ replicate 31 0
+    ++ (0 ∷ 0 ∷ 0x00 ∷ 0x06 ∷ 0xE1 ∷ 0x00 ∷ 0x01 ∷ 0x00 ∷ 0x06 ∷ 0xE1 ∷ 0x00 ∷ 0x01 ∷ 0x00 ∷ 0x06 ∷ 0xE1 ∷ 0x00 ∷ 0x01
+    ∷ a ∷ 0x80 ∷ replicate 47 0)))))
+
+abbrev pub values : List ℕ
+values = 1 ∷ 2 ∷ 3 ∷ 1 ∷ 5 ∷ 2 ∷ 7 ∷ 8 ∷ 600 ∷ 10 ∷ 3 ∷ 12 ∷ 13 ∷ 14 ∷ 15 ∷ 1 ∷ 100000 ∷ 3 ∷ 2000 ∷ 77 ∷ 21 ∷ 22 ∷ []
+
+-- the jobs: block, and go on after the refusal; write a record; two refused writes, and a mark
+abbrev pub block : Job Step
+block = record { product = 1; steps = setMark 1 2 ∷ write 1 9 600 ∷ [] }
+
+abbrev pub topUp : Job Step
+topUp = record { product = 2; steps = writeAll 2 values ∷ [] }
+
+abbrev pub fare : Job Step
+fare = record { product = 3; steps = write 3 9 1440 ∷ write 3 23 0 ∷ setMark 3 1 ∷ [] }
+
+abbrev pub jobs : List (Job Step)
+jobs = block ∷ topUp ∷ fare ∷ []
+
+separate : Separate owner jobs
+separate = record {
+  own = ((refl, (refl, tt)), ((refl, tt), ((refl, (refl, (refl, tt))), tt)));
+  distinct = ((λ e. omega (arith, e), (λ e. omega (arith, e), tt)), ((λ e. omega (arith, e), tt), (tt, tt)));
+}
+
+-- two ways to mix them
+abbrev pub inTurn : List Step
+inTurn = setMark 1 2 ∷ writeAll 2 values ∷ write 3 9 1440 ∷ write 1 9 600 ∷ write 3 23 0 ∷ setMark 3 1 ∷ []
+
+abbrev pub fareFirst : List Step
+fareFirst = write 3 9 1440 ∷ write 3 23 0 ∷ setMark 1 2 ∷ setMark 3 1 ∷ writeAll 2 values ∷ write 1 9 600 ∷ []
+
+in-turn : Mix (lists jobs) inTurn
+in-turn = turn here (turn (there here) (turn (there (there here)) (turn here (turn (there (there here)) (turn (there (there here)) (done {js = [] ∷ [] ∷ [] ∷ []} (refl, (refl, (refl, tt)))))))))
+
+fare-first : Mix (lists jobs) fareFirst
+fare-first = turn (there (there here)) (turn (there (there here)) (turn here (turn (there (there here)) (turn (there here) (turn here (done {js = [] ∷ [] ∷ [] ∷ []} (refl, (refl, (refl, tt)))))))))
+
+-- every element is a byte
+below : List ℕ → Bool
+below [] = true
+below (x ∷ l) = ltb x 256 && below l
+
+left : (a b : Bool) → T (a && b) → T a
+left true b t = tt
+left false b t = t
+
+right : (a b : Bool) → T (a && b) → T b
+right true b t = t
+right false b t = absurd t
+
+below-bytes : (l : List ℕ) → T (below l) → Bytes l
+unfolding below
+below-bytes [] t k = omega arith
+below-bytes (x ∷ l) t zero = ltb→lt x 256 (left (ltb x 256) (below l) t)
+below-bytes (x ∷ l) t (suc k) = below-bytes l (right (ltb x 256) (below l) t) k
+
+image-bytes : Bytes (image 0x36)
+unfolding image below
+image-bytes = below-bytes (image 0x36) tt
+
+-- the two mixes end alike, as the jobs whole
+pub ends-alike : end card (image 0x36) inTurn ≡ end card (image 0x36) fareFirst
+ends-alike =
+    jobs-mixed jobs separate inTurn in-turn (image 0x36) image-bytes .ends jobs same
+    ∙ sym (jobs-mixed jobs separate fareFirst fare-first (image 0x36) image-bytes .ends jobs same)
+
+-- ---- the answers
+
+-- what is to be computed
+judge : List ℕ → Step → Verdict
+unfolding answer seen productAt elementAt stepRules verdict rules first all stated version copy shellValues fields dataset B S e# SCTL shellPad SECR beforeSECR sectorAt directoryAt entryAt tableAt isProduct Ψ tableBytes element tablePad chain sectors mark sector joined product brokenAt sharesAt products.brokenAt products.sharesAt products.member products.meet products.some lowest field number bit digit leadingZeros walk link crc register clocks clock mostOf limits
+judge c s = answer c s
+
+act : List ℕ → Step → List ℕ
+unfolding judge next stores store bytes stored shifted
+act c s = next c s
+
+answers-first : (answer (image 0x36) (setMark 1 2) ≡ says 0 0) × (answer (image 0x36) (writeAll 2 values) ≡ says 0 0) × (answer (image 0x36) (write 3 9 1440) ≡ says 26 3)
+    × (answer (image 0x36) (write 3 23 0) ≡ says 25 3) × (answer (image 0x36) (setMark 3 1) ≡ says 0 0)
+unfolding judge image
+answers-first = (refl, refl, refl, refl, refl)
+
+-- blocking makes SCT(1) 4: the table's first byte is 96
+blocked : next (image 0x36) (setMark 1 2) ≡ image 0x96
+unfolding act image
+blocked = refl
+
+answers-blocked : answer (image 0x96) (write 1 9 600) ≡ says 27 1
+unfolding judge image
+answers-blocked = refl
+
+refused-first : (next (image 0x36) (write 3 9 1440) ≡ image 0x36) × (next (image 0x36) (write 3 23 0) ≡ image 0x36)
+refused-first = (
+  refused-same (image 0x36) (write 3 9 1440) (omega (arith, ap (λ (v : Verdict). v .number) (answers-first .2))),
+  refused-same (image 0x36) (write 3 23 0) (omega (arith, ap (λ (v : Verdict). v .number) (answers-first .3))),
+)
+
+-- whatever the mix, these are the answers of the three jobs' steps
+pub answered : (m : List Step) → Mix (lists jobs) m
+    → (entriesOf owner 1 (log card (image 0x36) m) ≡ (setMark 1 2, says 0 0) ∷ (write 1 9 600, says 27 1) ∷ [])
+    × (entriesOf owner 2 (log card (image 0x36) m) ≡ (writeAll 2 values, says 0 0) ∷ [])
+    × (entriesOf owner 3 (log card (image 0x36) m) ≡ (write 3 9 1440, says 26 3) ∷ (write 3 23 0, says 25 3) ∷ (setMark 3 1, says 0 0) ∷ [])
+answered m h =
+    let a = jobs-mixed jobs separate m h (image 0x36) image-bytes .alone in (
+      a .0 ∙ rw (blocked, answers-first .0, answers-blocked),
+      a .1 .0 ∙ rw (answers-first .1),
+      a .1 .1 .0 ∙ rw (refused-first .0, refused-first .1, answers-first .2, answers-first .3, answers-first .4),
+    )
