@@ -1,0 +1,5 @@
+pub mod Tests
+pub mod Digits
+pub mod Spelled
+pub mod Room
+pub mod Back
