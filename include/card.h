@@ -35,6 +35,23 @@ typedef struct { size_t number, entry, end; } card_filled;
 typedef struct { size_t number, entry; uint64_t year, month, day; } card_date;
 typedef struct { size_t number, entry; uint64_t stamp; } card_stamp;
 
+/* A record of twenty-two values after a step on it, and one value of it. */
+typedef struct { size_t number, entry; uint64_t values[22]; } card_changed;
+typedef struct { size_t number, entry, value; } card_value;
+
+/* What encoders of fixed size give: the bytes, zeros where they refuse. */
+typedef struct { size_t number, entry; uint8_t bytes[5]; } card_entry_bytes;
+typedef struct { size_t number, entry; uint8_t bytes[2]; } card_head_bytes;
+typedef struct { size_t number, entry; uint8_t bytes[6]; } card_tail_bytes;
+typedef struct { size_t number, entry; uint8_t bytes[27]; } card_ticket_bytes;
+
+/* What decoders of fixed size give: the values. */
+typedef struct { uint64_t values[16]; } card_shell_values;
+typedef struct { uint64_t values[7]; } card_entry_values;
+typedef struct { uint64_t values[3]; } card_head_values;
+typedef struct { uint64_t values[4]; } card_tail_values;
+typedef struct { uint64_t values[22]; } card_record;
+
 /* Whether the image is accepted: 0, or 1 to 11. */
 card_answer card_check(const uint8_t *image, size_t length);
 
@@ -55,5 +72,37 @@ card_filled card_fill(const uint8_t *image, size_t length, size_t entry, uint8_t
 card_answer card_write_field(uint8_t *image, size_t length, size_t entry, size_t field, uint64_t value);
 card_answer card_write_record(uint8_t *image, size_t length, size_t entry, const uint64_t values[22]);
 card_answer card_mark(uint8_t *image, size_t length, size_t entry, size_t mark);
+
+/* Which entries differ between two images: flag j - 1 becomes 1 or 0. The images' own numbers, the first image's first; then 90 for images of
+   another shape, 91 for flags not one for each entry. */
+card_answer card_touched(const uint8_t *before, size_t before_length, const uint8_t *after, size_t after_length, uint8_t *flags, size_t count);
+
+/* A field of a record of values, set and read: 25, 26. Refused, the record comes back as it was. */
+card_changed card_record_set(const uint64_t values[22], size_t field, uint64_t value);
+card_value card_record_value(const uint64_t values[22], size_t field);
+
+/* The shell's dataset, with zero padding and SECR, into a lent buffer: 26, 5, 8, 21. Later bytes stay. */
+card_answer card_encode_shell(const uint64_t values[16], uint8_t *out, size_t size);
+card_shell_values card_decode_shell(const uint8_t bytes[20]);
+
+/* An entry, the directory's two ends, a ticket's header and its fields, between values and bytes: 26. */
+card_entry_bytes card_encode_entry(const uint64_t values[7]);
+card_entry_values card_decode_entry(const uint8_t bytes[5]);
+card_head_bytes card_encode_head(const uint64_t values[3]);
+card_head_values card_decode_head(const uint8_t bytes[2]);
+card_tail_bytes card_encode_tail(const uint64_t values[4]);
+card_tail_values card_decode_tail(const uint8_t bytes[6]);
+card_head_bytes card_encode_header(const uint64_t values[3]);
+card_head_values card_decode_header(const uint8_t bytes[2]);
+card_ticket_bytes card_encode_ticket(const uint64_t values[22]);
+card_record card_decode_ticket(const uint8_t bytes[27]);
+
+/* A chain table of S - 3 elements into a lent buffer of SCTL bytes: 6, 21, 26. And its elements: 6, 21. */
+card_answer card_encode_table(uint64_t s, const uint64_t *elements, size_t count, uint8_t *out, size_t size);
+card_table card_decode_table(uint64_t s, const uint8_t *bytes, size_t size);
+
+/* A stamp's calendar date: 30. A date's stamp: 29. */
+card_date card_date_of(uint64_t stamp);
+card_stamp card_stamp_of(uint64_t year, uint64_t month, uint64_t day);
 
 #endif
