@@ -25,7 +25,7 @@ use Rattle.directory.specs.Table as table
 use Rattle.directory.specs.Table.{elementsIn, elementPlaces}
 use Rattle.directory.proofs.Places.{length-places, element-is, room}
 use Rattle.directory.proofs.TableRound as table-round
-use Rattle.image.specs.Image.{shellValues, dataset, S, SCTL, SECR, sealed, tableAt, element}
+use Rattle.image.specs.Image.{shellValues, dataset, S, SCTL, SECR, beforeSECR, tableAt, element}
 use Rattle.image.specs.Obeys.{Obeys}
 use Rattle.image.specs.Rules.{verdict}
 use Rattle.image.proofs.Accepted.{obeys-bounds}
@@ -47,7 +47,7 @@ elementsRead c = take (readTable c .count) (readTable c .elements)
 
 -- the bytes d of a dataset with zero padding and a right SECR, encoded again
 dataset-again : (d : List ℕ) → Bytes d → (l : List ℕ) → shell-encode.encodeNumber (valuesIn d) (length l) ≡ 0 → length d ≡ datasetOf (valuesIn d)
-    → shell.padding d (datasetOf (valuesIn d)) ≡ 0 → shell.SECR d (datasetOf (valuesIn d)) ≡ crc (shell.sealed d (datasetOf (valuesIn d)))
+    → shell.padding d (datasetOf (valuesIn d)) ≡ 0 → shell.SECR d (datasetOf (valuesIn d)) ≡ crc (shell.beforeSECR d (datasetOf (valuesIn d)))
     → shell-encode.encodeIn (valuesIn d) l ≡ d ++ drop (datasetOf (valuesIn d)) l
 dataset-again d b l k n p s =
     shell-round.encoded (valuesIn d) l k
@@ -67,7 +67,7 @@ module _ (c : List ℕ) (bytes : Bytes c) (z : verdict c .number ≡ 0) where
   shell-taken n h =
       shell-round.encode-taken (shellValues c) n .1 (
         fit-fields (drop 4 c) lists.shell .low,
-        (obeys .full-shell, (obeys .dataset-least, (obeys .iin, (obeys .issn, (obeys .chd, (h, tt)))))),
+        (obeys .bit-map-zero, (obeys .dataset-least, (obeys .iin, (obeys .issn, (obeys .chd, (h, tt)))))),
       )
 
   values-front : valuesIn (part c 4 (dataset c)) ≡ shellValues c
@@ -80,8 +80,8 @@ module _ (c : List ℕ) (bytes : Bytes c) (z : verdict c .number ≡ 0) where
       field-of-zeros (part c 4 (dataset c)) 160 (8 * (dataset c - 22))
       (λ j h. bit-front (drop 4 c) (dataset c) (160 + j) (omega arith) ∙ obeys .shell-padding (160 + j) (omega arith) (omega arith))
 
-  checksum-front : shell.SECR (part c 4 (dataset c)) (dataset c) ≡ crc (shell.sealed (part c 4 (dataset c)) (dataset c))
-  unfolding SECR sealed
+  checksum-front : shell.SECR (part c 4 (dataset c)) (dataset c) ≡ crc (shell.beforeSECR (part c 4 (dataset c)) (dataset c))
+  unfolding SECR beforeSECR
   checksum-front =
       let b = obeys-bounds c obeys in
       field-cong (part c 4 (dataset c)) (drop 4 c) (8 * (dataset c - 2)) (8 * (dataset c - 2)) 16

@@ -1,3 +1,4 @@
 pub mod Cards
 pub mod Sizes
 pub mod Readings
+pub mod Worked

@@ -7,7 +7,9 @@ use Rattle.bits.specs.Bits.{digit, bit, number, field}
 use Rattle.chains.specs.Chain.{Walk, found, broken, link, walk}
 use Rattle.chains.specs.Packed.{packed}
 use Rattle.image.specs.Image.{sectors}
-use Rattle.worked.proofs.Cards.{at, judge, shellSector}
+use Rattle.worked.specs.Cards.{shellStart, shellSector}
+use Rattle.worked.specs.Worked.{at}
+use Rattle.worked.proofs.Cards.{judge}
 
 -- the walk from sector 1 of a table of S 16 that begins with the byte a
 walked : ℕ → Walk
@@ -30,5 +32,5 @@ lent =
     ∷ shellSector ++ (replicate 832 0 ++ (0 ∷ 0 ∷ 0x00 ∷ 0x06 ∷ 0xE1 ∷ 0x00 ∷ 0x01 ∷ 0 ∷ 0 ∷ 0 ∷ 0 ∷ 0 ∷ 0x2F ∷ replicate 115 0))
 
 lent-accepted : (judge lent ≡ at 0 0) × (sectors lent 1 ≡ 1 ∷ 2 ∷ [])
-unfolding judge sectors lent shellSector
+unfolding judge sectors lent shellSector shellStart
 lent-accepted = (refl, refl)
