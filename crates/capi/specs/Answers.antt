@@ -20,6 +20,11 @@ pub record Gives (r : CardAnswer) (v : Verdict) : Type 0 where
   pub number-is : r .number ≡ v .number
   pub entry-is : r .entry ≡ v .entry
 
+-- .. of what the calls of `steps` answer for a verdict
+pub record Told (r : CardAnswer) (v : Verdict) : Type 0 where
+  pub number-is : r .number ≡ steps.numberOf (steps.answered v)
+  pub entry-is : r .entry ≡ steps.entryOf (steps.answered v)
+
 -- .. of a step on an image
 pub record Stepped (r : CardAnswer) (c : List ℕ) (s : Step) : Type 0 where
   pub number-is : r .number ≡ steps.numberOf (steps.answered (answer c s))

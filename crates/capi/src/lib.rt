@@ -38,12 +38,13 @@ ghost use Rattle.reads.specs.Entry.{readEntry, readChain};
 ghost use Rattle.reads.specs.Ticket.{readTicket, bufferAfter};
 ghost use Rattle.steps.specs.Step.{write, writeAll, setMark};
 ghost use Rattle.steps.specs.Steps.{next};
+ghost use Rattle.steps.specs.Touched.{touchedAnswer, touchedFlags};
 ghost use Rattle.steps.specs.Answers as steps;
 ghost use Rattle.rules.specs.Written as written;
 ghost use Rattle.dates.specs.DateAnswer as dated;
 ghost use Rattle.dates.specs.StampAnswer as stamped;
 ghost use Rattle.reads.specs.Ticket as read;
-ghost use Rattle.capi.specs.Answers.{Gives, Stepped, Wrote, Filling, Dating, Stamping};
+ghost use Rattle.capi.specs.Answers.{Gives, Told, Stepped, Wrote, Filling, Dating, Stamping};
 
 // A number and an entry, 0 and 0 for success.
 #[repr(C)]
@@ -209,6 +210,15 @@ pub extern "C" fn card_mark(image: &mut [u8], entry: usize, mark: usize) -> Card
     ensures { λ _. ⌜ now (image .exit) ≡ next (now (image .entry)) (setMark entry mark) ⌝ }
 {
     of_step(card::mark(image, entry, mark))
+}
+
+// Which entries differ between two images.
+#[no_mangle]
+pub extern "C" fn card_touched(before: &[u8], after: &[u8], flags: &mut [u8]) -> CardAnswer
+    ensures { λ r. ⌜ Told r (touchedAnswer (now (before .entry)) (now (after .entry)) (length (now (flags .entry)))) ⌝ }
+    ensures { λ _. ⌜ now (flags .exit) ≡ touchedFlags (now (before .entry)) (now (after .entry)) (now (flags .entry)) ⌝ }
+{
+    of_step(card::touched(before, after, flags))
 }
 
 // A field of a record of values, set and read.

@@ -26,6 +26,7 @@ pub use reads::rest;
 // Steps on a product, and which entries they touched.
 pub use steps::Answer;
 pub use steps::mark;
+pub use steps::touched;
 pub use steps::write_field;
 pub use steps::write_record;
 
