@@ -1,6 +1,7 @@
 -- `steps::mark` meets its contract: each number is the first rule that fails, and where none does the element is stored. Assumes nothing.
 use mathlib.Core.Path.{_∙_}
-use Rattle.steps.proofs.Calls.{sees-of, turned-of, failed-answer, turned-answer, taken-answer, last-sector, mark-first, mark-taken, mark-stored}
+use native.Mathlib.Omega.{arith}
+use Rattle.steps.proofs.Calls.{sees-of, turned-of, failed-answer, turned-answer, taken-answer, last-sector, entry-in, mark-first, mark-taken, mark-stored}
 use Rattle.steps.proofs.Acts.{kept-mark}
 use borrow.Author.Needs.{needs}
 use Rattle.steps.proofs.mark.Statement.{statement}
@@ -27,7 +28,10 @@ store-mark-requires : tie.Need-store-mark-requires
 store-mark-requires c κs =
     let s = (sees-of (c .before .before .before .before .before .before .find .ensures) (c .before .before .before .before .g .given .1)) in
     let t = mark-taken s _ _ (c .before .before .mark-number .ensures) (c .before .if1 .left) in
-    (s .shape, (last-sector s, kept-mark _ _ _ t))
+    let l = last-sector s in
+    let e = entry-in s in
+    let b = s .shape .in-bounds in
+    (s .shape, (record { low = omega (arith, l .low, e .0); high = omega (arith, l .high, e .1, s .shape .entries-is, s .shape .sectors-is, b .e-top) }, kept-mark _ _ _ t))
 
 enum-known-n : tie.Need-enum-known-n
 enum-known-n c = search needs
