@@ -1,29 +1,29 @@
+-- `capi::card_check` meets its contract: an accepted image has the verdict 0, 0. Assumes nothing.
+use mathlib.Core.Path.{_≡_, sym, ap, _∙_}
 use borrow.Author.Needs.{needs}
+use Rattle.image.proofs.Accepted.{accepted-open, refused-shut}
+use Rattle.reads.proofs.Given.{none-named}
 use Rattle.capi.proofs.card_check.Statement.{statement}
 use Rattle.capi.proofs.card_check.Tie as tie
-use Rattle.capi.proofs.card_check.Reads as reads
-use Rattle.capi.proofs.card_check.Lts as lts
-use Rattle.image.proofs.check.Reads as check-reads
 
--- src/lib.rt:110:11
 check-requires : tie.Need-check-requires
 check-requires c κs = search needs
 
--- src/lib.rt:111:33
 enum-told : tie.Need-enum-told
 enum-told c = search needs
 
--- src/lib.rt:115:26
 enum-known-number : tie.Need-enum-known-number
 enum-known-number c = search needs
 
--- src/lib.rt:106:1
 returns : tie.Need-returns
-returns c = ?
+returns c =
+    let o = accepted-open _ _ (sym (c .before .before .check .ensures) ∙ c .enum-told .given .1) in
+    record { number-is = sym (o .number-zero); entry-is = sym (none-named _ (o .number-zero)) }
 
--- src/lib.rt:106:1
 returns-2 : tie.Need-returns-2
-returns-2 c = ?
+returns-2 c =
+    let s = refused-shut _ _ _ (sym (c .before .before .before .check .ensures) ∙ c .before .number .given .1) in
+    record { number-is = sym (s .number-is); entry-is = sym (s .entry-is) }
 
 pub card-check-spec : {M : Type 1} → statement M
 card-check-spec = tie.close (tie.spec check-requires enum-told enum-known-number returns returns-2)

@@ -1,29 +1,28 @@
+-- `capi::card_date_of` meets its contract: it passes on what `date` answers, case by case. Assumes nothing.
+use mathlib.Core.Path.{_≡_, sym, ap, _∙_}
 use borrow.Author.Needs.{needs}
+use Rattle.dates.specs.DateAnswer.{numberOf, entryOf, valuesOf}
 use Rattle.capi.proofs.card_date_of.Statement.{statement}
 use Rattle.capi.proofs.card_date_of.Tie as tie
-use Rattle.capi.proofs.card_date_of.Reads as reads
-use Rattle.capi.proofs.card_date_of.Lts as lts
-use Rattle.dates.proofs.date.Reads as date-reads
 
--- src/lib.rt:345:11
 date-requires : tie.Need-date-requires
 date-requires c κs = search needs
 
--- src/lib.rt:346:19
 enum-known-d : tie.Need-enum-known-d
 enum-known-d c = search needs
 
--- src/lib.rt:353:24
 enum-known-number : tie.Need-enum-known-number
 enum-known-number c = search needs
 
--- src/lib.rt:341:1
 returns : tie.Need-returns
-returns c = ?
+returns c =
+    let e = sym (c .before .d .given .1) ∙ c .before .before .before .date .ensures in
+    record { number-is = ap numberOf e; entry-is = ap entryOf e; values-are = ap valuesOf e }
 
--- src/lib.rt:341:1
 returns-2 : tie.Need-returns-2
-returns-2 c = ?
+returns-2 c =
+    let e = sym (c .before .number .given .1) ∙ c .before .before .before .date .ensures in
+    record { number-is = ap numberOf e; entry-is = ap entryOf e; values-are = ap valuesOf e }
 
 pub card-date-of-spec : {M : Type 1} → statement M
 card-date-of-spec =

@@ -1,37 +1,36 @@
+-- `capi::card_fill` meets its contract: it passes on what filling answers, case by case. Assumes nothing.
+use mathlib.Core.Path.{_≡_, sym, ap, _∙_}
 use borrow.Author.Needs.{needs}
+use Rattle.reads.specs.Ticket.{numberOf, entryOf, extentOf}
 use Rattle.capi.proofs.card_fill.Statement.{statement}
 use Rattle.capi.proofs.card_fill.Tie as tie
-use Rattle.capi.proofs.card_fill.Reads as reads
-use Rattle.capi.proofs.card_fill.Lts as lts
-use Rattle.reads.proofs.fill.Reads as fill-reads
 
--- src/lib.rt:168:11
 fill-requires : tie.Need-fill-requires
 fill-requires c κs = search needs
 
--- src/lib.rt:169:21
 enum-known-end : tie.Need-enum-known-end
 enum-known-end c = search needs
 
--- src/lib.rt:174:25
 enum-known-number : tie.Need-enum-known-number
 enum-known-number c = search needs
 
--- src/lib.rt:163:1
 same-length : tie.Need-same-length
 same-length c = search needs
 
--- src/lib.rt:163:1
 returns : tie.Need-returns
-returns c = ?
+returns c =
+    let s = c .before .before .before .before .before .fill .ensures in
+    let e = sym (c .before .end .given .1) ∙ s .0 in
+    (record { number-is = ap numberOf e; entry-is = ap entryOf e; end-is = ap extentOf e }, s .1)
 
--- src/lib.rt:163:1
 same-length-2 : tie.Need-same-length-2
 same-length-2 c = search needs
 
--- src/lib.rt:163:1
 returns-2 : tie.Need-returns-2
-returns-2 c = ?
+returns-2 c =
+    let s = c .before .before .before .before .before .fill .ensures in
+    let e = sym (c .before .number .given .1) ∙ s .0 in
+    (record { number-is = ap numberOf e; entry-is = ap entryOf e; end-is = ap extentOf e }, s .1)
 
 pub card-fill-spec : {M : Type 1} → statement M
 card-fill-spec =

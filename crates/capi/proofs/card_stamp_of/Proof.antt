@@ -1,29 +1,28 @@
+-- `capi::card_stamp_of` meets its contract: it passes on what `stamp` answers, case by case. Assumes nothing.
+use mathlib.Core.Path.{_≡_, sym, ap, _∙_}
 use borrow.Author.Needs.{needs}
+use Rattle.dates.specs.StampAnswer.{numberOf, entryOf, valuesOf}
 use Rattle.capi.proofs.card_stamp_of.Statement.{statement}
 use Rattle.capi.proofs.card_stamp_of.Tie as tie
-use Rattle.capi.proofs.card_stamp_of.Reads as reads
-use Rattle.capi.proofs.card_stamp_of.Lts as lts
-use Rattle.dates.proofs.stamp.Reads as stamp-reads
 
--- src/lib.rt:367:11
 stamp-requires : tie.Need-stamp-requires
 stamp-requires c κs = search needs
 
--- src/lib.rt:368:21
 enum-known-stamp : tie.Need-enum-known-stamp
 enum-known-stamp c = search needs
 
--- src/lib.rt:373:26
 enum-known-number : tie.Need-enum-known-number
 enum-known-number c = search needs
 
--- src/lib.rt:363:1
 returns : tie.Need-returns
-returns c = ?
+returns c =
+    let e = sym (c .before .stamp2 .given .1) ∙ c .before .before .before .stamp .ensures in
+    record { number-is = ap numberOf e; entry-is = ap entryOf e; value-is = ap valuesOf e }
 
--- src/lib.rt:363:1
 returns-2 : tie.Need-returns-2
-returns-2 c = ?
+returns-2 c =
+    let e = sym (c .before .number .given .1) ∙ c .before .before .before .stamp .ensures in
+    record { number-is = ap numberOf e; entry-is = ap entryOf e; value-is = ap valuesOf e }
 
 pub card-stamp-of-spec : {M : Type 1} → statement M
 card-stamp-of-spec =
