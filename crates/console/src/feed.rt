@@ -53,6 +53,11 @@ fn one(
             let next = files::save_line(line, &image[0..n], out, state.answer);
             return flushed(out, state.answered(next), FULL);
         }
+        if words::begins(line, b"touched") {
+            let n = words::least(state.image, image.len());
+            let next = files::touched_line(line, &image[0..n], kept, out, state.answer);
+            return flushed(out, state.answered(next), FULL);
+        }
     }
     let next = crate::answer(line, image, kept, buffer, out, state, all);
     flushed(out, next, FULL)

@@ -1,7 +1,11 @@
 // Image files: one is read whole, and one is written beside its place and then put there.
 use crate::line;
+use crate::touched;
 use crate::words;
 use crate::words::NONE;
+
+// The largest image file.
+const LARGEST: usize = 65535;
 
 // Reads a file that is shorter than the buffer, and gives its size; NONE where it can't be read or is not shorter.
 pub fn load(path: &[u8], into: &mut [u8]) -> usize {
@@ -76,4 +80,24 @@ pub(crate) fn save_line(line: &[u8], image: &[u8], out: &mut [u8], at: usize) ->
         return text::put(out, at, b"saved\n");
     }
     text::put(out, at, b"not saved\n")
+}
+
+// The desk's command `touched FILE`: the file's image is the one before.
+pub(crate) fn touched_line(
+    line: &[u8],
+    image: &[u8],
+    kept: &mut [u8],
+    out: &mut [u8],
+    at: usize,
+) -> usize {
+    let start = words::after(line, words::first(line));
+    let end = text::end(line, start);
+    if (end < line.len()) | (start == end) {
+        return line::unknown(out, at);
+    }
+    let size = load(&line[start..end], kept);
+    if LARGEST < size {
+        return text::put(out, at, b"not read\n");
+    }
+    touched::between(kept, size, image, out, at)
 }

@@ -1,4 +1,5 @@
 // A line of text is answered from an image: the commands of the desk, and those that only a test program knows.
+mod changes;
 mod decodes;
 mod encodes;
 mod feed;
@@ -8,6 +9,7 @@ mod lends;
 mod line;
 mod listing;
 mod looks;
+mod touched;
 mod trial;
 mod values;
 mod words;
@@ -35,6 +37,15 @@ impl State {
     }
 }
 
+// Answers a line that is a command on values, apart from the image, or says nothing.
+fn apart(line: &[u8], count: usize, list: &[u64; 302], out: &mut [u8], at: usize) -> Said {
+    let encoded = encodes::answer(line, count, list, out, at);
+    if let Said::Upto(next) = encoded {
+        return Said::Upto(next);
+    }
+    values::answer(line, count, list, out, at)
+}
+
 // Answers a line that is one of the desk's commands, or says nothing.
 fn common(
     line: &[u8],
@@ -55,11 +66,11 @@ fn common(
     if let Said::Upto(next) = lent {
         return Said::Upto(next);
     }
-    let encoded = encodes::answer(line, count, &list, out, at);
-    if let Said::Upto(next) = encoded {
+    let changed = changes::answer(line, count, &list, &mut image[0..n], out, at);
+    if let Said::Upto(next) = changed {
         return Said::Upto(next);
     }
-    values::answer(line, count, &list, out, at)
+    apart(line, count, &list, out, at)
 }
 
 // Answers a line, with the commands that only a test program knows where `all` says so.

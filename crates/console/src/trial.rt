@@ -4,6 +4,7 @@ use crate::decodes;
 use crate::hex;
 use crate::lends;
 use crate::line;
+use crate::touched;
 use crate::values;
 use crate::words;
 
@@ -23,6 +24,11 @@ pub(crate) fn answer(
     }
     if words::asks(line, b"keep", count, 0) {
         return keep(image, kept, out, state);
+    }
+    if words::asks(line, b"touched", count, 0) {
+        let n = words::least(state.image, image.len());
+        let next = touched::between(kept, state.kept, &image[0..n], out, state.answer);
+        return state.answered(next);
     }
     if words::begins(line, b"at") {
         let n = words::least(state.image, image.len());
