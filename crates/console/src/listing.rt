@@ -3,7 +3,15 @@ use crate::line;
 use image::Checked;
 use image::Shape;
 
+// Over the largest image that can be accepted nothing is looked at: document 01 has it refused with 1, entry 0.
 pub fn list(image: &[u8], out: &mut [u8], at: usize) -> usize {
+    if 60439 < image.len() {
+        return refused(rules::WRONG_LENGTH, 0, out, at);
+    }
+    listed(image, out, at)
+}
+
+fn listed(image: &[u8], out: &mut [u8], at: usize) -> usize {
     match image::check(image) {
         Checked::Accepted(g) => {
             let next = header(g, out, at);
