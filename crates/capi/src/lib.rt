@@ -29,7 +29,7 @@ ghost use mathlib.Core.Path.{_≡_};
 ghost use lib.ListN.{length};
 ghost use Rattle.shell.specs.Encode as shells;
 ghost use Rattle.directory.specs.Records as records;
-ghost use Rattle.directory.specs.Table as tables;
+ghost use Rattle.table.specs.Table as tables;
 ghost use Rattle.ticket.specs.Header as headers;
 ghost use Rattle.ticket.specs.Ticket as tickets;
 ghost use Rattle.image.specs.Rules.{verdict};

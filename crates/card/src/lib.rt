@@ -4,9 +4,14 @@
 // Whether an image is accepted.
 pub use image::Checked;
 pub use image::Shape;
-pub use image::check;
+pub use verdict::check;
 
 // Reading a card.
+pub use readcard::read_directory;
+pub use readcard::read_shell;
+pub use readcard::read_table;
+pub use readentry::read_chain;
+pub use readentry::read_entry;
 pub use reads::ChainRead;
 pub use reads::DirectoryRead;
 pub use reads::EntryRead;
@@ -14,24 +19,18 @@ pub use reads::Filled;
 pub use reads::ShellRead;
 pub use reads::TableRead;
 pub use reads::TicketRead;
-pub use reads::fill;
-pub use reads::read_chain;
-pub use reads::read_directory;
-pub use reads::read_entry;
-pub use reads::read_shell;
-pub use reads::read_table;
-pub use reads::read_ticket;
-pub use reads::rest;
+pub use readticket::fill;
+pub use readticket::read_ticket;
+pub use readticket::rest;
 
 // Steps on a product, and which entries they touched.
+pub use marks::mark;
 pub use steps::Answer;
-pub use steps::mark;
-pub use steps::touched;
-pub use steps::write_field;
-pub use steps::write_record;
+pub use touched::touched;
+pub use writes::write_field;
+pub use writes::write_record;
 
 // Records between values and bytes.
-pub use directory::Elements;
 pub use directory::Entry;
 pub use directory::EntryBytes;
 pub use directory::Head;
@@ -40,26 +39,27 @@ pub use directory::Tail;
 pub use directory::TailBytes;
 pub use directory::decode_entry;
 pub use directory::decode_head;
-pub use directory::decode_table;
 pub use directory::decode_tail;
 pub use directory::encode_entry;
 pub use directory::encode_head;
-pub use directory::encode_table;
 pub use directory::encode_tail;
 pub use rules::Written;
 pub use shell::Shell;
 pub use shell::decode as decode_shell;
 pub use shell::encode as encode_shell;
+pub use table::Elements;
+pub use table::decode_table;
+pub use table::encode_table;
 pub use ticket::Changed;
 pub use ticket::Encoded;
 pub use ticket::Header;
 pub use ticket::HeaderBytes;
 pub use ticket::Record;
 pub use ticket::Value;
-pub use ticket::decode as decode_ticket;
-pub use ticket::decode_header;
-pub use ticket::encode as encode_ticket;
-pub use ticket::encode_header;
+pub use ticketbytes::decode as decode_ticket;
+pub use ticketbytes::decode_header;
+pub use ticketbytes::encode as encode_ticket;
+pub use ticketbytes::encode_header;
 
 // Dates.
 pub use dates::Date;

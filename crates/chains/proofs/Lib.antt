@@ -10,3 +10,4 @@ pub mod Seen
 pub mod Together
 pub mod Marks
 pub mod Kept
+pub mod Kth

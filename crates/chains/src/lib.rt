@@ -2,7 +2,7 @@
 ghost use mathlib.Core.Path.{_≡_};
 ghost use Prim.Native.Nat.{ℕ, _<_, _≤_};
 ghost use Rattle.bits.specs.Bits.{store};
-ghost use Rattle.chains.specs.Chain.{Sector, walk};
+ghost use Rattle.chains.specs.Chain.{Sector, walk, sectorFrom};
 ghost use Rattle.chains.specs.Psi.{Ψ, tableBytes};
 ghost use Rattle.chains.specs.Packed.{Inside, elementAt, packed, walked, tabled, lastLeft, markSaid};
 
@@ -84,6 +84,27 @@ pub fn last(l: &&[u8], first: usize, psi: usize, sectors: usize, i: usize, allow
         return i + 256 * (allowed - 1);
     }
     last(l, first, psi, sectors, x, allowed - 1)
+}
+
+// The sector k places on from sector i, counted from 0; 0 where the elements do not lead so far.
+pub fn sector(l: &&[u8], first: usize, psi: usize, sectors: usize, i: usize, k: usize) -> usize
+    requires { ⌜ Inside (now (now l)) (tabled first psi sectors) ⌝ }
+    requires { ⌜ Sector sectors i ⌝ }
+    ensures { λ (r : ℕ). ⌜ r ≡ sectorFrom (packed (now (now (l .entry))) first psi) sectors i k ⌝ }
+{
+    if k == 0 {
+        return i;
+    }
+    let t = Table {
+        first: first,
+        psi: psi,
+        sectors: sectors,
+    };
+    let x = element(*l, t, i);
+    if (x == i) | (x == 0) | (sectors - 3 < x) {
+        return 0;
+    }
+    sector(l, first, psi, sectors, x, k - 1)
 }
 
 // The mark of the element x, which ends a chain at sector i.

@@ -1,14 +1,9 @@
 // Image files: one is read whole, and one is written beside its place and then put there.
-use crate::line;
-use crate::touched;
-use crate::words;
-use crate::words::NONE;
-
-// The largest image file.
-const LARGEST: usize = 65535;
+use crate::LARGEST;
+use words::NONE;
 
 // Reads a file that is shorter than the buffer, and gives its size; NONE where it can't be read or is not shorter.
-pub fn load(path: &[u8], into: &mut [u8]) -> usize {
+pub(crate) fn load(path: &[u8], into: &mut [u8]) -> usize {
     let fd = os::open_read(path);
     if fd < 0 {
         return NONE;
@@ -69,35 +64,34 @@ fn save_by(name: &[u8], path: &[u8], image: &[u8]) -> bool {
     false
 }
 
-// The desk's command `save FILE`.
-pub(crate) fn save_line(line: &[u8], image: &[u8], out: &mut [u8], at: usize) -> usize {
-    let start = words::after(line, words::first(line));
-    let end = text::end(line, start);
-    if (end < line.len()) | (start == end) {
-        return line::unknown(out, at);
+// Answers the desk's commands on files, each with one word after it that names the file.
+pub(crate) fn answer(word: &[u8], path: &[u8], image: &[u8]) {
+    if (words::first(path) < path.len()) | (path.len() == 0) {
+        prints::unknown();
+        return;
     }
-    if save(&line[start..end], image) {
-        return text::put(out, at, b"saved\n");
+    match words::place(word, 1, b"save * touched *") {
+        0 => save_to(path, image),
+        1 => touched_since(path, image),
+        _ => prints::unknown(),
     }
-    text::put(out, at, b"not saved\n")
 }
 
-// The desk's command `touched FILE`: the file's image is the one before.
-pub(crate) fn touched_line(
-    line: &[u8],
-    image: &[u8],
-    kept: &mut [u8],
-    out: &mut [u8],
-    at: usize,
-) -> usize {
-    let start = words::after(line, words::first(line));
-    let end = text::end(line, start);
-    if (end < line.len()) | (start == end) {
-        return line::unknown(out, at);
+fn save_to(path: &[u8], image: &[u8]) {
+    if save(path, image) {
+        prints::say(b"saved\n");
+    } else {
+        prints::say(b"not saved\n");
     }
-    let size = load(&line[start..end], kept);
+}
+
+// The file's image is the one before.
+fn touched_since(path: &[u8], image: &[u8]) {
+    let mut before = [0u8; 65536];
+    let size = load(path, &mut before);
     if LARGEST < size {
-        return text::put(out, at, b"not read\n");
+        prints::say(b"not read\n");
+        return;
     }
-    touched::between(kept, size, image, out, at)
+    looks::touched(&before[0..size], image);
 }

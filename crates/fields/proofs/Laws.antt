@@ -16,6 +16,7 @@ use Rattle.bits.proofs.Laws.{lt-or-le, bit-past, ext, digit-field, field-lt, fi
 use Rattle.fields.specs.declared.Span.{Span}
 use Rattle.fields.specs.Lists.{joined, nth}
 use Rattle.fields.specs.Fields.{fields, stores, limitOf, limits, above, lowest}
+use Rattle.fields.specs.Together.{Fit}
 use Rattle.fields.proofs.Joined.{head-of, tail-of, nil-of, ends, within, ordered}
 
 -- ---- one at a time
@@ -93,11 +94,6 @@ field-before a (p ∷ ps) e t l (v ∷ vs) q u h =
     let s = head-of a p ps e t in
     field-before (a + p .1) ps e (tail-of a p ps e t) (store l (p .0) (p .1) v) vs q u (omega arith)
     ∙ field-store-apart l (p .0) (p .1) v q u (inr (omega arith))
-
--- as many values as places, none above its limit
-pub record Fit (ps : List Span) (vs : List ℕ) : Type 0 where
-  pub many : length vs ≡ length ps
-  pub low : (i : ℕ) → i < length ps → getD vs i 0 ≤ limitOf (nth ps i)
 
 fit-tail : (p : Span) (ps : List Span) (v : ℕ) (vs : List ℕ) → Fit (p ∷ ps) (v ∷ vs) → Fit ps vs
 fit-tail p ps v vs f = record { many = omega (arith, f .many); low = λ i h. f .low (suc i) (omega arith) }

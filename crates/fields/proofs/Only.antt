@@ -1,5 +1,5 @@
 -- Places stored within a region leave every bit outside it, and what is stored in two regions apart may change places: each store is so. Assumes nothing.
-use mathlib.Core.Path.{_≡_, refl, sym, ap, ap₂, _∙_}
+use mathlib.Core.Path.{_≡_, refl, sym, ap, _∙_}
 use mathlib.Core.Logic.{inl, inr, ⊎-elim}
 use mathlib.Core.List.{List, [], _∷_}
 use Prim.Native.Nat.{ℕ, _+_, _*_, _≤_}
@@ -10,7 +10,7 @@ use Rattle.bits.specs.Bits.{Bytes, bit, field, store}
 use Rattle.bits.proofs.Laws.{Outside, Apart, ext, field-cong, bit-part, bit-store-out, store-comm, bytes-take, bytes-drop}
 use Rattle.fields.specs.declared.Span.{Span}
 use Rattle.fields.specs.Lists.{joined}
-use Rattle.fields.specs.Fields.{fields, stores}
+use Rattle.fields.specs.Fields.{stores}
 use Rattle.fields.specs.Shifted.{shifted}
 use Rattle.fields.proofs.Joined.{head-of, tail-of, ends}
 use Rattle.fields.proofs.Laws.{length-stores, bytes-stores}
@@ -70,12 +70,6 @@ stores-comm a n b m l ps vs (q ∷ qs) [] h k o = refl
 stores-comm a n b m l ps vs (q ∷ qs) (w ∷ ws) h k o =
     ap (λ (z : List ℕ). stores z qs ws) (store-stores a n l ps vs (q .0) (q .1) w h (apart-within a n b m (q .0) (q .1) o (k .0 .0) (k .0 .1)))
     ∙ stores-comm a n b m (store l (q .0) (q .1) w) ps vs qs ws h (k .1) o
-
--- the same numbers at every place up to bit n: the same values of a list that ends there
-pub fields-same : (l m : List ℕ) (n : ℕ) (ps : List Span) → ((p w : ℕ) → p + w ≤ n → field l p w ≡ field m p w) → Inside 0 n ps → fields l ps ≡ fields m ps
-unfolding fields
-fields-same l m n [] h k = refl
-fields-same l m n (p ∷ ps) h k = ap₂ (λ (x : ℕ) (xs : List ℕ). x ∷ xs) (h (p .0) (p .1) (omega (arith, k .0))) (fields-same l m n ps h (k .1))
 
 -- ---- what differs in one region alone
 

@@ -11,8 +11,9 @@ use Rattle.bits.proofs.Laws.{length-store, bytes-store, store-part, field-cong,
 use Rattle.fields.specs.declared.Span.{Span}
 use Rattle.fields.specs.Lists.{joined}
 use Rattle.fields.specs.Fields.{fields, stores}
+use Rattle.fields.specs.Together.{Fit}
 use Rattle.fields.specs.Shifted.{shifted}
-use Rattle.fields.proofs.Laws.{length-stores, bytes-stores, Fit, fields-stores, stores-fields}
+use Rattle.fields.proofs.Laws.{length-stores, bytes-stores, fields-stores, stores-fields}
 use Rattle.fields.proofs.Only.{Inside}
 
 -- the n bytes of l from byte a on

@@ -3,6 +3,7 @@ ghost use mathlib.Core.Path.{_≡_};
 ghost use Prim.Native.Nat.{_*_, _<_, _≤_};
 ghost use lib.ListN.{length, replicate};
 ghost use Rattle.bits.specs.Bits.{field, store};
+ghost use Rattle.fields.specs.Lists as lists;
 ghost use Rattle.fields.specs.Lists.{listOf, endOf, nth};
 ghost use Rattle.rules.specs.Claim.{holds};
 ghost use Rattle.fields.specs.Fields.{fields, stores, limitOf, limits, lowest, setTold, setIn, fit, packNumber, packIn};
@@ -109,19 +110,67 @@ pub fn count(k: Layout) -> usize
     }
 }
 
+// The place of the field i of the image's first bytes.
+fn in_image(i: usize) -> Span
+    requires { ⌜ i < length lists.image ⌝ }
+    ensures { λ r. ⌜ r ≡ nth lists.image i ⌝ }
+{
+    IMAGE[i]
+}
+
+// The place of the field i of the shell.
+fn in_shell(i: usize) -> Span
+    requires { ⌜ i < length lists.shell ⌝ }
+    ensures { λ r. ⌜ r ≡ nth lists.shell i ⌝ }
+{
+    SHELL[i]
+}
+
+// The place of the field i of an entry.
+fn in_entry(i: usize) -> Span
+    requires { ⌜ i < length lists.entry ⌝ }
+    ensures { λ r. ⌜ r ≡ nth lists.entry i ⌝ }
+{
+    ENTRY[i]
+}
+
+// The place of the field i of a directory's or a ticket's header.
+fn in_head(i: usize) -> Span
+    requires { ⌜ i < length lists.head ⌝ }
+    ensures { λ r. ⌜ r ≡ nth lists.head i ⌝ }
+{
+    HEAD[i]
+}
+
+// The place of the field i of a directory's tail.
+fn in_tail(i: usize) -> Span
+    requires { ⌜ i < length lists.tail ⌝ }
+    ensures { λ r. ⌜ r ≡ nth lists.tail i ⌝ }
+{
+    TAIL[i]
+}
+
+// The place of the field i of a ticket.
+fn in_typ23(i: usize) -> Span
+    requires { ⌜ i < length lists.typ23 ⌝ }
+    ensures { λ r. ⌜ r ≡ nth lists.typ23 i ⌝ }
+{
+    TYP23[i]
+}
+
 // The place of the field i, counted from 0.
 pub fn place(k: Layout, i: usize) -> Span
     requires { ⌜ i < length (listOf k) ⌝ }
     ensures { λ r. ⌜ r ≡ nth (listOf k) i ⌝ }
 {
     match k {
-        Layout::Image => IMAGE[i],
-        Layout::Shell => SHELL[i],
-        Layout::Entry => ENTRY[i],
-        Layout::Head => HEAD[i],
-        Layout::Tail => TAIL[i],
-        Layout::Header => HEAD[i],
-        Layout::Typ23 => TYP23[i],
+        Layout::Image => in_image(i),
+        Layout::Shell => in_shell(i),
+        Layout::Entry => in_entry(i),
+        Layout::Head => in_head(i),
+        Layout::Tail => in_tail(i),
+        Layout::Header => in_head(i),
+        Layout::Typ23 => in_typ23(i),
     }
 }
 

@@ -13,3 +13,4 @@ pub mod Accepted
 pub mod First
 pub mod Same
 pub mod Stays
+pub mod Founds

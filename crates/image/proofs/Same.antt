@@ -13,7 +13,8 @@ use Rattle.bits.proofs.Laws.{Apart, bit-drop, field-drop}
 use Rattle.fields.specs.Lists.{listOf}
 use Rattle.fields.specs.declared.Layout.the-variants.{Shell}
 use Rattle.fields.proofs.Joined.{lists-joined}
-use Rattle.fields.proofs.Only.{joined-inside, fields-same, Only, only-field, only-part}
+use Rattle.fields.proofs.Only.{Only, only-field, only-part}
+use Rattle.fields.proofs.Same.{fields-same}
 use Rattle.chains.specs.Chain.{Sector}
 use Rattle.chains.specs.Psi.{Ψ}
 use Rattle.image.specs.Image.{stated, version, copy, shellValues, dataset, B, S, e#, SCTL, SECR, beforeSECR, sectorAt, directoryAt, tableAt, element}
@@ -70,11 +71,12 @@ module _ {c d : List ℕ} {l a n : ℕ} (b : Bounds c) (o : Only c d a n) (s : S
   unfolding copy
   copy-is = early 24 8 (omega arith)
 
+  shell-bits : (i : ℕ) → i < 8 * B c → bit (drop 4 d) i ≡ bit (drop 4 c) i
+  shell-bits i h = bit-drop d 4 i ∙ o .outside (32 + i) (inl (omega arith)) ∙ sym (bit-drop c 4 i)
+
   values-are : shellValues d ≡ shellValues c
   unfolding shellValues
-  values-are =
-      fields-same (drop 4 d) (drop 4 c) 160 (listOf Shell) (λ p w h. early-shell p w (omega arith))
-      (joined-inside 0 (listOf Shell) 160 (lists-joined Shell) 0 160 (omega arith) (omega arith))
+  values-are = fields-same 0 (listOf Shell) 160 (lists-joined Shell) (drop 4 d) (drop 4 c) (λ i x y. shell-bits i (omega arith))
 
   dataset-is : dataset d ≡ dataset c
   unfolding dataset
@@ -103,9 +105,6 @@ module _ {c d : List ℕ} {l a n : ℕ} (b : Bounds c) (o : Only c d a n) (s : S
   before-secr-is : beforeSECR d ≡ beforeSECR c
   unfolding beforeSECR
   before-secr-is = rw dataset-is (only-part o 4 (dataset c - 2) (inr (omega arith)))
-
-  shell-bits : (i : ℕ) → i < 8 * B c → bit (drop 4 d) i ≡ bit (drop 4 c) i
-  shell-bits i h = bit-drop d 4 i ∙ o .outside (32 + i) (inl (omega arith)) ∙ sym (bit-drop c 4 i)
 
   padding-bits : (i : ℕ) → 8 * tableAt c + Ψ (S c) * (S c - 3) ≤ i → i < 8 * (tableAt c + SCTL c) → bit d i ≡ bit c i
   padding-bits i h k = o .outside i (⊎-elim (λ z. inr (omega arith)) (λ z. inl (omega arith)) (s .padding))

@@ -34,9 +34,3 @@ checkOf c = answer (verdict c .number) (verdict c .entry) (shapeOf c)
 -- by the rules 1 to 9 alone
 unfoldable pub ruledOf : List ℕ → Checked
 ruledOf c = answer (first (rules c)) 0 (shapeOf c)
-
--- what the chains answer: the lowest broken, the lowest shared
-abbrev pub chainsOf : ℕ → ℕ → Shape → Checked
-chainsOf (suc j) k g = Refused 10 (suc j)
-chainsOf zero (suc k) g = Refused 11 (suc k)
-chainsOf zero zero g = Accepted g

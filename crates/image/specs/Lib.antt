@@ -5,3 +5,4 @@ pub mod Obeys
 pub mod Bounds
 pub mod Shape
 pub mod Answer
+pub mod Found

@@ -69,6 +69,11 @@ pub record Obeys (c : List ℕ) : Type 0 where
   -- 11: no two products have a sector in common
   pub disjoint : products.Disjoint (IsProduct c) (element c) (S c)
 
+-- entry j is a product of an acceptable image: none of 1 to 11 and 20 holds
+pub record Present (c : List ℕ) (j : ℕ) : Type 0 where
+  pub obeys : Obeys c
+  pub is-product : IsProduct c j
+
 -- r is the lowest number of which P holds
 pub record Lowest (P : ℕ → Type 0) (r : ℕ) : Type 0 where
   pub holds : P r

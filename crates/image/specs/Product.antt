@@ -4,12 +4,13 @@ use Prim.Native.Nat.{ℕ, zero, suc, _+_, _-_, _*_}
 use mathlib.Core.Bool.{Bool, true, false}
 use mathlib.Core.List.{List}
 use lib.ListN.{length, drop}
+use Rattle.rules.specs.Claim.{Rule, first}
 use Rattle.fields.specs.Fields.{valueAt}
 use Rattle.fields.specs.declared.Layout.the-variants.{Entry, Header}
 use Rattle.chains.specs.Chain.{lastOf}
 use Rattle.chains.specs.Psi.{Ψ}
 use Rattle.image.specs.Image.{S, sectorAt, entryAt, tableAt, isProduct, sectors, mark, product}
-use Rattle.image.specs.Rules.{verdict}
+use Rattle.image.specs.Rules.{Verdict, verdict}
 
 -- the bit where SCT(i) starts
 unfoldable pub elementAt : List ℕ → ℕ → ℕ
@@ -54,3 +55,19 @@ seenBy zero e false p = missing
 
 unfoldable pub seen : List ℕ → ℕ → Seen
 seen c j = seenBy (verdict c .number) (verdict c .entry) (isProduct c j) (productAt c j)
+
+-- ---- the number and entry of a call on entry j
+
+-- "20 to 28 name the entry asked for"; success names none
+abbrev pub named : ℕ → ℕ → Verdict
+named zero j = record { number = 0; entry = 0 }
+named (suc n) j = record { number = suc n; entry = j }
+
+-- the image's own refusal, 20, or the first of the rules for the product that it does not keep
+abbrev pub judgedBy : Seen → ℕ → (Product → List Rule) → Verdict
+judgedBy (refused n e) j rules = record { number = n; entry = e }
+judgedBy missing j rules = record { number = 20; entry = j }
+judgedBy (there p) j rules = named (first (rules p)) j
+
+unfoldable pub asked : List ℕ → ℕ → (Product → List Rule) → Verdict
+asked c j rules = judgedBy (seen c j) j rules

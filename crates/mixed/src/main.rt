@@ -55,22 +55,22 @@ fn record() -> Record {
 
 // The tasks take turns.
 fn in_turn(image: &mut [u8]) {
-    tell(b"mark 1 2: ", steps::mark(image, 1, 2));
-    tell(b"record 2: ", steps::write_record(image, 2, record()));
-    tell(b"field 3 9 1440: ", steps::write_field(image, 3, 9, 1440));
-    tell(b"field 1 9 600: ", steps::write_field(image, 1, 9, 600));
-    tell(b"field 3 23 0: ", steps::write_field(image, 3, 23, 0));
-    tell(b"mark 3 1: ", steps::mark(image, 3, 1));
+    tell(b"mark 1 2: ", marks::mark(image, 1, 2));
+    tell(b"record 2: ", writes::write_record(image, 2, record()));
+    tell(b"field 3 9 1440: ", writes::write_field(image, 3, 9, 1440));
+    tell(b"field 1 9 600: ", writes::write_field(image, 1, 9, 600));
+    tell(b"field 3 23 0: ", writes::write_field(image, 3, 23, 0));
+    tell(b"mark 3 1: ", marks::mark(image, 3, 1));
 }
 
 // The fare task goes first.
 fn fare_first(image: &mut [u8]) {
-    tell(b"field 3 9 1440: ", steps::write_field(image, 3, 9, 1440));
-    tell(b"field 3 23 0: ", steps::write_field(image, 3, 23, 0));
-    tell(b"mark 1 2: ", steps::mark(image, 1, 2));
-    tell(b"mark 3 1: ", steps::mark(image, 3, 1));
-    tell(b"record 2: ", steps::write_record(image, 2, record()));
-    tell(b"field 1 9 600: ", steps::write_field(image, 1, 9, 600));
+    tell(b"field 3 9 1440: ", writes::write_field(image, 3, 9, 1440));
+    tell(b"field 3 23 0: ", writes::write_field(image, 3, 23, 0));
+    tell(b"mark 1 2: ", marks::mark(image, 1, 2));
+    tell(b"mark 3 1: ", marks::mark(image, 3, 1));
+    tell(b"record 2: ", writes::write_record(image, 2, record()));
+    tell(b"field 1 9 600: ", writes::write_field(image, 1, 9, 600));
 }
 
 fn main() {

@@ -21,17 +21,17 @@ use Rattle.shell.specs.Shell as shell
 use Rattle.shell.specs.Shell.{valuesIn, datasetOf}
 use Rattle.shell.specs.Encode as shell-encode
 use Rattle.shell.proofs.Round as shell-round
-use Rattle.directory.specs.Table as table
-use Rattle.directory.specs.Table.{elementsIn, elementPlaces}
-use Rattle.directory.proofs.Places.{length-places, element-is, room}
-use Rattle.directory.proofs.TableRound as table-round
+use Rattle.table.specs.Table as table
+use Rattle.table.specs.Table.{elementsIn, elementPlaces}
+use Rattle.table.proofs.Places.{length-places, element-is, room}
+use Rattle.table.proofs.Round as table-round
 use Rattle.image.specs.Image.{shellValues, dataset, S, SCTL, SECR, beforeSECR, tableAt, element}
 use Rattle.image.specs.Obeys.{Obeys}
 use Rattle.image.specs.Rules.{verdict}
 use Rattle.image.proofs.Accepted.{obeys-bounds}
 use Rattle.image.proofs.Exact.{accepts}
 use Rattle.reads.specs.Card.{readShell, readTable, elements}
-use Rattle.reads.proofs.Copied.{length-counted, getD-counted}
+use Rattle.reads.proofs.Counted.{length-counted, getD-counted}
 
 part-length : (l : List ℕ) (a n : ℕ) → a + n ≤ length l → length (part l a n) ≡ n
 part-length l a n h = length-take-le n (drop a l) (omega (arith, length-drop a l))

@@ -15,7 +15,7 @@ use Rattle.ticket.specs.Kind.{kind, limit}
 use Rattle.ticket.proofs.Limits.{limit-time}
 use Rattle.image.specs.Image.{product, mark}
 use Rattle.image.specs.Product.{Product, productAt}
-use Rattle.reads.specs.Entry.{There}
+use Rattle.image.specs.Obeys.{Present}
 use Rattle.reads.specs.Ticket.{readTicket, refusal, timeIn}
 use Rattle.reads.specs.Says.{Cause, late, Fine, refused, taken}
 use Rattle.reads.proofs.Exactly.{row-given}
@@ -50,8 +50,8 @@ of-kind p room rs k h = record {
 -- ---- after a write that was taken
 
 module _ (c : List ℕ) (b : Bytes c) (s : Step) (t : Taken c s) (w : newMark c s ≡ mark c (owner s)) where
-  there : There (next c s) (owner s)
-  there = record { obeys = stays c b s t; product = product-kept-there c b s t (t .present) }
+  there : Present (next c s) (owner s)
+  there = record { obeys = stays c b s t; is-product = product-kept-there c b s t (t .present) }
 
   looks-same : productAt (next c s) (owner s) ≡ productAt c (owner s)
   looks-same = product-same c b s t (owner s) (t .present) (mark-own c b s t ∙ w)

@@ -11,7 +11,7 @@ use Rattle.image.specs.Image.{mark, product}
 use Rattle.image.specs.Rules.{Verdict}
 use Rattle.image.specs.Product.{productAt}
 use Rattle.reads.specs.Entry as entry
-use Rattle.reads.specs.Entry.{There}
+use Rattle.image.specs.Obeys.{Present}
 use Rattle.reads.specs.Card.{readShell, readDirectory, readTable}
 use Rattle.reads.specs.Ticket.{timeIn, refusal, extent, readTicket, bufferAfter, filledBy, fillOf, numberOf, entryOf, restBy, rest}
 use Rattle.reads.specs.Says.{Fine, taken}
@@ -53,7 +53,7 @@ module _ (c : List ℕ) (j room : ℕ) where
       back (suc n) z h = rw z
 
   -- a blocked product is read
-  pub blocked-read : There c j → mark c j ≡ 2 → Fine (productAt c j) room (timeIn c j) → (readTicket c j room .number ≡ 0) × (readTicket c j room .mark ≡ 2)
+  pub blocked-read : Present c j → mark c j ≡ 2 → Fine (productAt c j) room (timeIn c j) → (readTicket c j room .number ≡ 0) × (readTicket c j room .mark ≡ 2)
   unfolding readTicket
   blocked-read t m f =
       let z = ap (λ (v : Verdict). v .number) (row-given c j room (taken t f)) in

@@ -6,9 +6,8 @@ use Prim.Native.Nat.{ℕ, zero, suc}
 use Rattle.rules.specs.Claim.{Rule, first}
 use Rattle.image.specs.Image.{isProduct}
 use Rattle.image.specs.Rules.{verdict}
-use Rattle.image.specs.Product.{Product, productAt, seenBy, seen}
+use Rattle.image.specs.Product.{Product, productAt, seenBy, seen, named, judgedBy, asked}
 use Rattle.image.proofs.Accepted.{Shut}
-use Rattle.reads.specs.Asked.{named, judgedBy, asked}
 
 module _ (c : List ℕ) (j : ℕ) (rs : Product → List Rule) where
   pub asked-shut : {n e : ℕ} → Shut c n e → asked c j rs ≡ record { number = n; entry = e }

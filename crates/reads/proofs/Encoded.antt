@@ -31,7 +31,8 @@ use Rattle.image.proofs.Accepted.{obeys-bounds}
 use Rattle.image.proofs.Exact.{accepts}
 use Rattle.image.proofs.First.{bytes-joined}
 use Rattle.reads.specs.Card.{readDirectory}
-use Rattle.reads.specs.Entry.{There, refusal, readEntry}
+use Rattle.image.specs.Obeys.{Present}
+use Rattle.reads.specs.Entry.{refusal, readEntry}
 use Rattle.reads.specs.Ticket as ticket
 use Rattle.reads.specs.Ticket.{readTicket}
 use Rattle.reads.proofs.Passed.{passed}
@@ -78,14 +79,14 @@ module _ (c : List ℕ) (bytes : Bytes c) (z : verdict c .number ≡ 0) where
 
 -- ---- an entry
 
-pub entry-encoded : (c : List ℕ) → Bytes c → (j : ℕ) → There c j → refusal c j .number ≡ 0
+pub entry-encoded : (c : List ℕ) → Bytes c → (j : ℕ) → Present c j → refusal c j .number ≡ 0
     → entryBytes (readEntry c j .values) ≡ record { number = 0; entry = 0; bytes = part c (entryAt c j) 5 }
 unfolding readEntry
 entry-encoded c bytes j t z =
     let b = obeys-bounds c (t .obeys) in
     rw z
     (ap entryBytes (sym (part-fields Entry c (entryAt c j) 5 (omega arith)))
-    ∙ entry-again (part c (entryAt c j) 5) (part-bytes c (entryAt c j) 5 bytes) (part-length c (entryAt c j) 5 (entry-in b j (t .product .low) (t .product .high))))
+    ∙ entry-again (part c (entryAt c j) 5) (part-bytes c (entryAt c j) 5 bytes) (part-length c (entryAt c j) 5 (entry-in b j (t .is-product .low) (t .is-product .high))))
 
 -- ---- a ticket
 

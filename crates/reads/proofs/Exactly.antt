@@ -1,7 +1,7 @@
 -- A ticket read gives a number exactly when the row of that number says so: the rules are the rows, and the first that does not hold decides.
 -- Assumes nothing.
 use mathlib.Core.Path.{_≡_, refl, sym, ap, _∙_}
-use mathlib.Core.Logic.{_≢_, _↔_, _⊎_, inl, inr, ⊎-elim}
+use mathlib.Core.Logic.{_↔_, inl, inr, ⊎-elim}
 use mathlib.Core.Bool.{Bool, true, false, true≢false}
 use mathlib.Core.List.{List}
 use Prim.Native.Nat.{ℕ, zero, suc, _*_, _≤_, _<_}
@@ -15,13 +15,11 @@ use Rattle.ticket.specs.Kind.{kind, typ, revision, leastOf, limit}
 use Rattle.ticket.proofs.Limits.{limit-time}
 use Rattle.image.specs.Image.{isProduct}
 use Rattle.image.specs.Rules.{Verdict, verdict}
-use Rattle.image.specs.Obeys.{Obeys}
-use Rattle.image.specs.Product.{Product, productAt}
+use Rattle.image.specs.Obeys.{Obeys, Present}
+use Rattle.image.specs.Product.{Product, productAt, named}
 use Rattle.image.proofs.Accepted.{Shut}
 use Rattle.image.proofs.Exact as exact-image
 use Rattle.image.proofs.Exact.{test-product, product-test, accepts}
-use Rattle.reads.specs.Asked.{named}
-use Rattle.reads.specs.Entry.{There}
 use Rattle.reads.specs.Ticket.{ticketRules, timeIn, refusal}
 use Rattle.reads.specs.Says.{Cause, short, other-kind, wrong-extent, late, Fine, Says, own, no-product, refused, taken}
 use Rattle.reads.proofs.Asked.{asked-shut, asked-missing, asked-there}
@@ -124,14 +122,14 @@ module _ (c : List ℕ) (j room : ℕ) where
       none true q = absurd (h (test-product c j q))
       none false q = q
   row-given (refused {n} t u) =
-      asked-there c j (ticketRules room (timeIn c j)) (accepts c .1 (t .obeys)) (product-test c j (t .product))
+      asked-there c j (ticketRules room (timeIn c j)) (accepts c .1 (t .obeys)) (product-test c j (t .is-product))
       ∙ ap (λ (m : ℕ). named m j) (first-cause (productAt c j) room (timeIn c j) u)
       ∙ named-some n j (cause-some u)
   row-given (taken t f) =
-      asked-there c j (ticketRules room (timeIn c j)) (accepts c .1 (t .obeys)) (product-test c j (t .product))
+      asked-there c j (ticketRules room (timeIn c j)) (accepts c .1 (t .obeys)) (product-test c j (t .is-product))
       ∙ ap (λ (m : ℕ). named m j) (first-fine (productAt c j) room (timeIn c j) f)
 
-  told-says : There c j → {n : ℕ} → Told (productAt c j) room (timeIn c j) n → Says c j room (named n j .number) (named n j .entry)
+  told-says : Present c j → {n : ℕ} → Told (productAt c j) room (timeIn c j) n → Says c j room (named n j .number) (named n j .entry)
   told-says t (fine f) = taken t f
   told-says t {n} (cause a u) = rw (named-some n j a) (refused t u)
 
@@ -140,7 +138,7 @@ module _ (c : List ℕ) (j room : ℕ) where
   product-says o false q =
       rw (asked-missing c j (ticketRules room (timeIn c j)) (accepts c .1 o) q) (no-product o (λ v. true≢false (sym (product-test c j v) ∙ q)))
   product-says o true q =
-      let t : There c j = record { obeys = o; product = test-product c j q } in
+      let t : Present c j = record { obeys = o; is-product = test-product c j q } in
       rw (asked-there c j (ticketRules room (timeIn c j)) (accepts c .1 o) q) (told-says t (told (productAt c j) room (timeIn c j)))
 
   own-says : (n : ℕ) → verdict c .number ≡ n → Says c j room (refusal c j room .number) (refusal c j room .entry)

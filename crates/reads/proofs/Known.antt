@@ -1,151 +1,92 @@
--- What is known once an image is accepted and an entry is found in it: the entry is a product and its chain is whole. Assumes nothing.
-use mathlib.Core.Path.{_≡_, refl, sym, ap, _∙_}
+-- What is known once an entry is found in an accepted image: it is a product, its chain is whole, and what was found of it is its own.
+-- Assumes nothing.
+use mathlib.Core.Path.{_≡_, refl, sym}
 use mathlib.Core.Bool.{Bool, true, false}
-use mathlib.Core.List.{List, []}
+use mathlib.Core.List.{List}
 use Prim.Native.Nat.{ℕ, zero, suc, _+_, _-_, _≤_, _<_}
 use native.Mathlib.Omega.{arith}
-use borrow.Author.Tests.{le-leb, lt-leb}
 use lib.ListN.{length, getD}
-use Rattle.rules.specs.Claim.{first}
-use Rattle.chains.specs.Chain.{Sector, Chain, Walk, found, broken}
-use Rattle.chains.specs.Packed.{told}
-use Rattle.chains.specs.declared.Walked.the-variants as W
+use Rattle.rules.specs.Claim.{Rule}
+use Rattle.chains.specs.Chain.{Sector, Chain}
 use Rattle.chains.proofs.Laws.{chain-short}
 use Rattle.chains.proofs.Order.{chain-first, chain-next, chain-sector}
-use Rattle.image.specs.Image.{S, e#, isProduct, element, chain, sectorsOf, markOf, sectors, mark}
+use Rattle.image.specs.Image.{S, isProduct, element, sectors, mark}
 use Rattle.image.specs.Rules.{Verdict, verdict}
-use Rattle.image.specs.Product.{productAt, seenBy, seen}
+use Rattle.image.specs.Product.{Product, productAt, seenBy, seen, judgedBy, asked}
 use Rattle.image.specs.Shape.{shapeOf}
-use Rattle.image.specs.Answer.{answer, checkOf}
+use Rattle.image.specs.Answer.{checkOf}
+use Rattle.image.specs.Found.{foundIn, foundOf}
 use Rattle.image.specs.declared.Shape.{Shape}
-use Rattle.image.specs.declared.Checked.{Checked}
-use Rattle.image.specs.declared.Checked.the-variants.{Accepted, Refused}
-use Rattle.image.proofs.Accepted.{Open, accepted-open, refused-shut}
+use Rattle.image.specs.declared.Found.the-variants as F
+use Rattle.image.proofs.Accepted.{Open, accepted-open}
 use Rattle.image.proofs.Exact.{test-product, product-sector}
 use Rattle.image.proofs.Stays.{chain-of}
-use Rattle.reads.specs.Asked.{judgedBy, asked}
-use Rattle.reads.specs.Entry.{There, refusal, foundIn}
-use Rattle.reads.specs.Checks.{soughtIn}
-use Rattle.reads.specs.declared.Sought.the-variants.{Here, Missing}
-use Rattle.reads.proofs.Asked.{asked-shut, asked-missing, asked-there}
+use Rattle.image.specs.Obeys.{Present}
 
 -- an image accepted with the shape g, and a product of it
 pub record Known (c : List ℕ) (g : Shape) (j : ℕ) : Type 0 where
   pub opened : Open c g
   pub is-there : isProduct c j ≡ true
-  pub there : There c j
-
-pub known-of : {c : List ℕ} {g : Shape} {j : ℕ} → Open c g → isProduct c j ≡ true → Known c g j
-known-of {c} {g} {j} o t =
-    let v = test-product c j t in
-    record { opened = o; is-there = t; there = record { obeys = o .obeys; product = v } }
+  pub there : Present c j
 
 pub known-at : (c : List ℕ) (j : ℕ) → verdict c .number ≡ 0 → isProduct c j ≡ true → Known c (shapeOf c) j
 unfolding checkOf
-known-at c j z t = known-of (accepted-open c (shapeOf c) (rw z)) t
+known-at c j z t =
+    let o = accepted-open c (shapeOf c) (rw z) in
+    record { opened = o; is-there = t; there = record { obeys = o .obeys; is-product = test-product c j t } }
 
--- what `find` accepts
-pub found-known : (c : List ℕ) (j : ℕ) (g : Shape) → foundIn c j ≡ Accepted g → Known c g j
-unfolding foundIn asked seen first
-found-known c j g q = go (verdict c .number) refl (isProduct c j) refl q
-  where
-    go : (n : ℕ) → verdict c .number ≡ n → (b : Bool) → isProduct c j ≡ b
-        → answer (judgedBy (seenBy n (verdict c .entry) b (productAt c j)) j (λ p. []) .number) (judgedBy (seenBy n (verdict c .entry) b (productAt c j)) j (λ p. []) .entry) (shapeOf c) ≡ Accepted g
-        → Known c g j
-    go (suc n) z b t w = absurd (let y : _≡_ {A = ℕ} 0 1 = cc in omega arith)
-    go zero z false t w = absurd (let y : _≡_ {A = ℕ} 0 1 = cc in omega arith)
-    go zero z true t w = let e : shapeOf c ≡ g = cc in rw e at (known-at c j z t)
+-- what was found there: the shape g, n sectors and the mark m
+pub record Told (c : List ℕ) (j : ℕ) (g : Shape) (n m : ℕ) : Type 0 where
+  pub known : Known c g j
+  pub count-is : n ≡ length (sectors c j)
+  pub mark-is : m ≡ mark c j
 
--- what it refuses
+-- a call whose verdict is v is refused with the number n and the entry e
 pub record Barred (v : Verdict) (n e : ℕ) : Type 0 where
   pub number-is : v .number ≡ n
   pub entry-is : v .entry ≡ e
   pub some : n ≡ 0 → ⊥
 
-pub answer-barred : (v : Verdict) {n e : ℕ} (g : Shape) → answer (v .number) (v .entry) g ≡ Refused n e → Barred v n e
-answer-barred v {n} {e} g q = go (v .number) refl q
-  where
-    go : (m : ℕ) → v .number ≡ m → answer m (v .entry) g ≡ Refused n e → Barred v n e
-    go zero z w = absurd (let y : _≡_ {A = ℕ} 0 1 = cc in omega arith)
-    go (suc m) z w =
-        let i : suc m ≡ n = cc in
-        let k : v .entry ≡ e = cc in
-        record { number-is = z ∙ i; entry-is = k; some = λ y. omega arith }
-
-pub found-barred : (c : List ℕ) (j : ℕ) {n e : ℕ} → foundIn c j ≡ Refused n e → Barred (refusal c j) n e
-unfolding foundIn
-found-barred c j q = answer-barred (refusal c j) (shapeOf c) q
-
--- ---- for `find`
-
-answer-some : (n e : ℕ) (g : Shape) → (n ≡ 0 → ⊥) → answer n e g ≡ Refused n e
-answer-some zero e g h = absurd (h refl)
-answer-some (suc n) e g h = refl
-
-module _ (c : List ℕ) (j : ℕ) {r : Checked} (a : r ≡ checkOf c) where
-  pub find-shut : {n e : ℕ} → r ≡ Refused n e → r ≡ foundIn c j
-  unfolding foundIn
-  find-shut {n} {e} q =
-      let s = refused-shut c n e (sym a ∙ q) in
-      rw (q, asked-shut c j (λ p. []) s) (sym (answer-some n e (shapeOf c) (s .some)))
-
-  pub find-missing : {g : Shape} → r ≡ Accepted g → isProduct c j ≡ false → Refused 20 j ≡ foundIn c j
-  unfolding foundIn
-  find-missing {g} q t = rw (asked-missing c j (λ p. []) (accepted-open c g (sym a ∙ q) .number-zero) t)
-
-  pub find-there : {g : Shape} → r ≡ Accepted g → isProduct c j ≡ true → Accepted g ≡ foundIn c j
-  unfolding foundIn first
-  find-there {g} q t =
-      let o = accepted-open c g (sym a ∙ q) in
-      rw (asked-there c j (λ p. []) (o .number-zero) t) (ap Accepted (o .shape-is))
-
--- ---- for `check_product`
-
-pub not-low : (c : List ℕ) (j : ℕ) → j < 1 → isProduct c j ≡ false
-unfolding isProduct
-not-low c j h = rw (lt-leb 1 j h)
-
-pub not-high : (c : List ℕ) (j : ℕ) → 1 ≤ j → e# c < j → isProduct c j ≡ false
-unfolding isProduct
-not-high c j l h = rw (le-leb 1 j l, lt-leb j (e# c) h)
-
--- ---- for `chain_of`
-
 module _ (c : List ℕ) (j : ℕ) where
-  pub chained-end : {l k m : ℕ} → W.End l k m ≡ told (chain c j) → (k ≡ length (sectors c j)) × (m ≡ mark c j)
-  unfolding sectors mark
-  chained-end {l} {k} {m} q = go (chain c j) q
+  pub found-there : {g : Shape} {l n m : ℕ} → foundOf c j ≡ F.There g l n m → Told c j g n m
+  unfolding foundOf seen
+  found-there {g} {l} {n} {m} q = go (verdict c .number) refl (isProduct c j) refl q
     where
-      go : (w : Walk) → W.End l k m ≡ told w → (k ≡ length (sectorsOf w)) × (m ≡ markOf w)
-      go (found ss x) q = (cc, cc)
-      go broken q = absurd (let y : _≡_ {A = ℕ} 0 1 = cc in omega arith)
+      go : (v : ℕ) → verdict c .number ≡ v → (b : Bool) → isProduct c j ≡ b
+          → foundIn (seenBy v (verdict c .entry) b (productAt c j)) c j ≡ F.There g l n m → Told c j g n m
+      go (suc v) z b t w = absurd (let y : _≡_ {A = ℕ} 0 1 = cc in omega arith)
+      go zero z false t w = absurd (let y : _≡_ {A = ℕ} 0 1 = cc in omega arith)
+      go zero z true t w =
+          let e : shapeOf c ≡ g = cc in
+          let a : n ≡ length (sectors c j) = cc in
+          let b : m ≡ mark c j = cc in
+          record { known = rw e at (known-at c j z t); count-is = a; mark-is = b }
 
-  pub chained-broken : W.Broken ≡ told (chain c j) → (0 ≡ length (sectors c j)) × (0 ≡ mark c j)
-  unfolding sectors mark
-  chained-broken q = go (chain c j) q
+  -- whatever is asked of the product besides
+  pub found-not : {n e : ℕ} → foundOf c j ≡ F.Not n e → (rs : Product → List Rule) → Barred (asked c j rs) n e
+  unfolding foundOf asked seen
+  found-not {n} {e} q rs = go (verdict c .number) (isProduct c j) q
     where
-      go : (w : Walk) → W.Broken ≡ told w → (0 ≡ length (sectorsOf w)) × (0 ≡ markOf w)
-      go (found ss x) q = absurd (let y : _≡_ {A = ℕ} 0 1 = cc in omega arith)
-      go broken q = (refl, refl)
-
--- ---- what the answer of `check_product` tells
-
-pub sought-here : (b : Bool) → soughtIn b ≡ Here → b ≡ true
-sought-here true q = refl
-sought-here false q = absurd (let y : _≡_ {A = ℕ} 0 1 = cc in omega arith)
-
-pub sought-missing : (b : Bool) → soughtIn b ≡ Missing → b ≡ false
-sought-missing true q = absurd (let y : _≡_ {A = ℕ} 0 1 = cc in omega arith)
-sought-missing false q = refl
+      go : (v : ℕ) (b : Bool) → foundIn (seenBy v (verdict c .entry) b (productAt c j)) c j ≡ F.Not n e
+          → Barred (judgedBy (seenBy v (verdict c .entry) b (productAt c j)) j rs) n e
+      go (suc v) b w =
+          let i : suc v ≡ n = cc in
+          let k : verdict c .entry ≡ e = cc in
+          record { number-is = i; entry-is = k; some = λ y. omega arith }
+      go zero false w =
+          let i : 20 ≡ n = cc in
+          let k : j ≡ e = cc in
+          record { number-is = i; entry-is = k; some = λ y. omega arith }
+      go zero true w = absurd (let y : _≡_ {A = ℕ} 0 1 = cc in omega arith)
 
 -- ---- the sectors of a product, by their number in its chain
 
-module _ {c : List ℕ} {j : ℕ} (t : There c j) where
+module _ {c : List ℕ} {j : ℕ} (t : Present c j) where
   pub there-sector : Sector (S c) j
-  there-sector = product-sector c (t .obeys .entries .1) (t .product)
+  there-sector = product-sector c (t .obeys .entries .1) (t .is-product)
 
   pub there-chain : Chain (element c) (S c) j (sectors c j) (mark c j)
-  there-chain = chain-of c (t .obeys) (t .product)
+  there-chain = chain-of c (t .obeys) (t .is-product)
 
   pub there-start : getD (sectors c j) 0 0 ≡ j
   there-start = chain-first (element c) (S c) there-chain

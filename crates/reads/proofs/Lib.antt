@@ -1,12 +1,10 @@
 pub mod Given
-pub mod Copied
+pub mod Counted
 pub mod Asked
 pub mod Known
 pub mod Places
 pub mod Sectors
-pub mod InOrder
 pub mod Passed
-pub mod TwoCalls
 pub mod Exactly
 pub mod Values
 pub mod Agree

@@ -18,10 +18,11 @@ use Rattle.image.specs.Rules.{verdict}
 use Rattle.image.proofs.Exact.{so-sectors}
 use Rattle.image.proofs.Stays.{so-mark}
 use Rattle.reads.specs.Card.{readShell, readDirectory, readTable, elements}
-use Rattle.reads.specs.Entry.{There, refusal, readEntry, readChain}
+use Rattle.image.specs.Obeys.{Present}
+use Rattle.reads.specs.Entry.{refusal, readEntry, readChain}
 use Rattle.reads.specs.Ticket as ticket
 use Rattle.reads.specs.Ticket.{readTicket}
-use Rattle.reads.proofs.Copied.{length-counted, getD-counted}
+use Rattle.reads.proofs.Counted.{length-counted, getD-counted}
 
 module _ (c : List ℕ) (z : verdict c .number ≡ 0) where
   pub shell-value : (i : ℕ) → i < 16 → getD (readShell c .values) i 0 ≡ valueAt Shell i (drop 4 c)
@@ -62,13 +63,13 @@ module _ (c : List ℕ) (j : ℕ) (z : refusal c j .number ≡ 0) where
   entry-value i h = rw z (getD-fields (drop (entryAt c j) c) (listOf Entry) i h)
 
   -- the count is the length of the chain, the mark is its mark, and the sectors are its own, in order
-  pub chain-value : There c j → {ss : List ℕ} {m : ℕ} → Chain (element c) (S c) j ss m
+  pub chain-value : Present c j → {ss : List ℕ} {m : ℕ} → Chain (element c) (S c) j ss m
       → (readChain c j .count ≡ length ss) × (readChain c j .mark ≡ m) × (take (length ss) (readChain c j .sectors) ≡ ss)
   unfolding readChain
   chain-value t {ss} d =
       let fits = t .obeys .entries .1 in
-      let s = so-sectors c fits (t .product) d in
-      rw (z, s, so-mark c fits (t .product) d) (refl, refl, take-append-seam ss (drop (length ss) (replicate 252 0)))
+      let s = so-sectors c fits (t .is-product) d in
+      rw (z, s, so-mark c fits (t .is-product) d) (refl, refl, take-append-seam ss (drop (length ss) (replicate 252 0)))
 
 module _ (c : List ℕ) (j room : ℕ) (z : ticket.refusal c j room .number ≡ 0) where
   pub header-value : (i : ℕ) → i < 3 → getD (readTicket c j room .header) i 0 ≡ valueAt Header i (product c j)
@@ -80,9 +81,9 @@ module _ (c : List ℕ) (j room : ℕ) (z : ticket.refusal c j room .number ≡ 
   ticket-value i h = rw z (getD-fields (product c j) (listOf kind) i h)
 
   -- the number of sectors is the length of the chain
-  pub ticket-chain : There c j → {ss : List ℕ} {m : ℕ} → Chain (element c) (S c) j ss m
+  pub ticket-chain : Present c j → {ss : List ℕ} {m : ℕ} → Chain (element c) (S c) j ss m
       → (readTicket c j room .sectors ≡ length ss) × (readTicket c j room .mark ≡ m)
   unfolding readTicket
   ticket-chain t d =
       let fits = t .obeys .entries .1 in
-      rw (z, so-sectors c fits (t .product) d, so-mark c fits (t .product) d) (refl, refl)
+      rw (z, so-sectors c fits (t .is-product) d, so-mark c fits (t .is-product) d) (refl, refl)

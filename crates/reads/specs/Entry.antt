@@ -6,12 +6,8 @@ use Rattle.fields.specs.Fields.{fields}
 use Rattle.fields.specs.Lists as lists
 use Rattle.image.specs.Image.{entryAt, sectors, mark}
 use Rattle.image.specs.Rules.{Verdict}
-use Rattle.image.specs.Obeys.{Obeys, IsProduct}
-use Rattle.image.specs.Shape.{shapeOf}
-use Rattle.image.specs.Answer.{answer}
-use Rattle.image.specs.declared.Checked.{Checked}
-use Rattle.reads.specs.Asked.{asked, value, values, over}
-use Rattle.reads.specs.declared.Chained.{Chained}
+use Rattle.image.specs.Product.{asked}
+use Rattle.reads.specs.Asked.{value, values, over}
 use Rattle.reads.specs.declared.EntryRead.{EntryRead}
 use Rattle.reads.specs.declared.ChainRead.{ChainRead}
 
@@ -22,19 +18,6 @@ refusal c j = asked c j (λ p. [])
 -- "The five bytes of an entry"
 abbrev pub entryValues : List ℕ → ℕ → List ℕ
 entryValues c j = fields (drop (entryAt c j) c) lists.entry
-
--- that refusal, or the shape of the image
-unfoldable pub foundIn : List ℕ → ℕ → Checked
-foundIn c j = answer (refusal c j .number) (refusal c j .entry) (shapeOf c)
-
--- entry j is a product of an acceptable image
-pub record There (c : List ℕ) (j : ℕ) : Type 0 where
-  pub obeys : Obeys c
-  pub product : IsProduct c j
-
--- the length of entry j's chain, and its mark
-unfoldable pub chainedIn : List ℕ → ℕ → Chained
-chainedIn c j = record { count = length (sectors c j); mark = mark c j }
 
 unfoldable pub readEntry : List ℕ → ℕ → EntryRead
 readEntry c j =

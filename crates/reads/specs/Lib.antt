@@ -2,5 +2,4 @@ pub mod Asked
 pub mod Card
 pub mod Entry
 pub mod Ticket
-pub mod Checks
 pub mod Says

@@ -5,9 +5,8 @@ use mathlib.Core.List.{List}
 use Prim.Native.Nat.{ℕ, _*_, _≤_, _<_}
 use Rattle.ticket.specs.Kind.{kind, typ, revision, leastOf}
 use Rattle.image.specs.Obeys as image
-use Rattle.image.specs.Obeys.{Obeys, IsProduct}
+use Rattle.image.specs.Obeys.{Obeys, IsProduct, Present}
 use Rattle.image.specs.Product.{Product, productAt}
-use Rattle.reads.specs.Entry.{There}
 use Rattle.reads.specs.Ticket.{timeIn}
 
 -- the product p, with the ExpiryTime `time`, into a buffer of `room` bytes: each cause says that those before it do not hold
@@ -39,5 +38,5 @@ pub data Says (c : List ℕ) (j room : ℕ) : ℕ → ℕ → Type 0 where
   -- 20: entry 0, above e#, or empty
   no-product : Obeys c → (IsProduct c j → ⊥) → Says c j room 20 j
   -- 21 to 24
-  refused : {n : ℕ} → There c j → Cause (productAt c j) room (timeIn c j) n → Says c j room n j
-  taken : There c j → Fine (productAt c j) room (timeIn c j) → Says c j room 0 0
+  refused : {n : ℕ} → Present c j → Cause (productAt c j) room (timeIn c j) n → Says c j room n j
+  taken : Present c j → Fine (productAt c j) room (timeIn c j) → Says c j room 0 0

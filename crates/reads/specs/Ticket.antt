@@ -1,5 +1,5 @@
 -- What the two calls that read a ticket answer, and the buffer after each (document 01, "Ticket fields"). Assumes nothing.
-use Prim.Native.Nat.{ℕ, zero, suc, _+_, _-_, _*_}
+use Prim.Native.Nat.{ℕ, zero, suc, _-_, _*_}
 use mathlib.Core.List.{List, [], _∷_, _++_}
 use lib.ListN.{length, take, drop}
 use Rattle.rules.specs.Claim.{_≤?_, Rule, rule}
@@ -10,8 +10,8 @@ use Rattle.ticket.specs.Ticket as ticket
 use Rattle.ticket.specs.Kind.{kind, limit, restOf, kindRules}
 use Rattle.image.specs.Image.{entryAt, sectors, mark, product}
 use Rattle.image.specs.Rules.{Verdict}
-use Rattle.image.specs.Product.{Product}
-use Rattle.reads.specs.Asked.{asked, value, values, lent}
+use Rattle.image.specs.Product.{Product, asked}
+use Rattle.reads.specs.Asked.{value, values, lent}
 use Rattle.reads.specs.declared.TicketRead.{TicketRead}
 use Rattle.reads.specs.declared.Filled.{Filled}
 use Rattle.reads.specs.declared.Filled.the-variants.{End, Refused}

@@ -1,3 +1,4 @@
 pub mod Dataset
+pub mod Digits
 pub mod Round
 pub mod Rules

@@ -3,7 +3,7 @@ use fields::Eight;
 use fields::Layout;
 use rules::Written;
 ghost use mathlib.Core.Path.{_≡_};
-ghost use Prim.Native.Nat.{_-_, _*_, _≤_};
+ghost use Prim.Native.Nat.{_-_, _*_, _^_, _≤_, _<_};
 ghost use lib.ListN.{length};
 ghost use Rattle.rules.specs.Claim.{holds};
 ghost use Rattle.rules.specs.Written.{writtenOf};
@@ -18,18 +18,12 @@ pub struct Shell {
     pub values: [u64; 16],
 }
 
-// Whether each of the `digits` digits of four bits at the low end of v is decimal.
-pub fn decimal(v: u64, digits: usize) -> bool
-    requires { ⌜ digits ≤ 16 ⌝ }
-    ensures { λ r. ⌜ r ≡ holds (decimal digits v) ⌝ }
+// Whether the eight digits of four bits of which v is made are decimal: one is above 9 where its bit 8 stands with its bit 4 or its bit 2.
+pub fn decimal(v: u64) -> bool
+    requires { ⌜ v < 2 ^ 32 ⌝ }
+    ensures { λ r. ⌜ r ≡ holds (decimal 8 v) ⌝ }
 {
-    let mut ok = true;
-    let mut k: usize = 0;
-    while k < digits {
-        ok = ok & ((v >> (4 * k)) % 16 <= 9);
-        k += 1;
-    }
-    ok
+    (v & (v << 1 | v << 2) & 0x8888_8888) == 0
 }
 
 // The values from ShellLength to FVC.
@@ -110,9 +104,9 @@ fn judge(v: &[u64], room: usize) -> usize
     if fields::all_fit(Layout::Shell, v) {
         let size = 4 * (v[0] as usize);
         let place = rules::need(rules::WRONG_ROOM, size <= room, 0);
-        let chd = rules::need(rules::WRONG_DIGIT, decimal(v[6], 1), place);
-        let issn = rules::need(rules::WRONG_DIGIT, decimal(v[5], 7), chd);
-        let iin = rules::need(rules::WRONG_DIGIT, decimal(v[3], 6), issn);
+        let chd = rules::need(rules::WRONG_DIGIT, decimal(v[6]), place);
+        let issn = rules::need(rules::WRONG_DIGIT, decimal(v[5]), chd);
+        let iin = rules::need(rules::WRONG_DIGIT, decimal(v[3]), issn);
         let length = rules::need(rules::WRONG_SHELL, 22 <= size, iin);
         return rules::need(rules::WRONG_SHELL, v[1] == 0, length);
     }

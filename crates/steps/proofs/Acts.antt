@@ -6,7 +6,7 @@ use mathlib.Core.List.{List, []}
 use Prim.Native.Nat.{ℕ, zero, suc, _+_, _-_, _*_, _≤_}
 use native.Mathlib.Decide.{decLt}
 use native.Mathlib.Omega.{arith}
-use Rattle.bits.specs.Bits.{Bytes, field}
+use Rattle.bits.specs.Bits.{Bytes}
 use Rattle.bits.proofs.Laws.{field-store}
 use Rattle.fields.specs.declared.Span.{Span}
 use Rattle.fields.specs.Lists.{span, listOf, startOf, endOf, nth}
@@ -25,7 +25,7 @@ use Rattle.image.specs.Image.{S, sectorAt, isProduct, element, sectors, mark}
 use Rattle.image.specs.Rules.{verdict}
 use Rattle.image.specs.Bounds.{Bounds}
 use Rattle.image.specs.Obeys.{IsProduct, Obeys}
-use Rattle.image.specs.Product.{Product, refused, elementAt, productAt, seen}
+use Rattle.image.specs.Product.{Product, elementAt, productAt, seen}
 use Rattle.image.proofs.Exact.{test-product, product-test, product-sector, accepts}
 use Rattle.image.proofs.Accepted.{obeys-bounds}
 use Rattle.image.proofs.Same.{Spares, Same, same, spares-sector, spares-element, element-in}

@@ -19,14 +19,14 @@ use Rattle.ticket.specs.Kind.{kind, typ, revision, leastOf, countOf, mostOf, li
 use Rattle.fields.specs.Fields.{limits}
 use Rattle.image.specs.Image.{S, isProduct, element, mark}
 use Rattle.image.specs.Rules.{verdict}
-use Rattle.image.specs.Obeys.{IsProduct, Obeys, Says, accepted}
+use Rattle.image.specs.Obeys.{IsProduct, Obeys, Says, accepted, Present}
 use Rattle.image.specs.Product.{Product, productAt, seen}
 use Rattle.image.proofs.Exact.{test-product, product-test, says, accepts, exact}
 use Rattle.image.proofs.Stays.{chain-of}
 use Rattle.steps.specs.Step.{Step, write, writeAll, setMark, owner}
 use Rattle.steps.specs.Steps.{writeRules, fieldRule, recordRule, stepRules, answer}
 use Rattle.steps.specs.Refuses as R
-use Rattle.steps.specs.Refuses.{Present, Blocked, OtherKind, WrongExtent, NoField, BadRecord, a-field, a-record, Writable, Refuses, image, no-product}
+use Rattle.steps.specs.Refuses.{Blocked, OtherKind, WrongExtent, NoField, BadRecord, a-field, a-record, Writable, Refuses, image, no-product}
 use Rattle.steps.proofs.Acts.{numbered}
 
 -- ---- numbers

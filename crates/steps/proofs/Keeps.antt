@@ -15,7 +15,7 @@ use Rattle.bits.proofs.Laws.{Apart, field-drop}
 use Rattle.fields.specs.declared.Span.{Span}
 use Rattle.fields.specs.declared.Layout.the-variants.{Entry}
 use Rattle.fields.specs.Lists.{span}
-use Rattle.fields.specs.Fields.{valueAt, stores}
+use Rattle.fields.specs.Fields.{valueAt}
 use Rattle.fields.proofs.Laws.{bytes-stores}
 use Rattle.fields.proofs.Only.{only-part}
 use Rattle.chains.specs.Chain.{Sector, In}

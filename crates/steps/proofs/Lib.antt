@@ -1,12 +1,8 @@
 pub mod Acts
-pub mod Alike
 pub mod Calls
-pub mod Compare
 pub mod Exactly
 pub mod Frame
 pub mod Keeps
-pub mod Pairs
-pub mod Stored
 pub mod Touches
 pub mod Unique
 pub mod Written

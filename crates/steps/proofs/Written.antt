@@ -9,19 +9,20 @@ use native.Mathlib.Decide.{ℕ-discrete}
 use native.Mathlib.Omega.{arith}
 use lib.ListN.{length, getD, set, drop}
 use lib.Seq.{getD-set-same, getD-set-other}
-use Rattle.bits.specs.Bits.{Bytes, field, store}
+use Rattle.bits.specs.Bits.{Bytes}
 use Rattle.bits.proofs.Laws.{store-store, store-field, bytes-take, bytes-drop}
 use Rattle.fields.specs.declared.Span.{Span}
 use Rattle.fields.specs.Lists.{listOf, nth}
 use Rattle.fields.specs.Fields.{fields, stores, limitOf, limits}
+use Rattle.fields.specs.Together.{Fit}
 use Rattle.fields.specs.Shifted.{shifted}
 use Rattle.fields.proofs.Joined.{lists-joined}
-use Rattle.fields.proofs.Laws.{Fit, getD-limits, length-limits, fields-stores, fields-store, length-stores}
+use Rattle.fields.proofs.Laws.{getD-limits, length-limits, fields-stores, fields-store, length-stores}
 use Rattle.fields.proofs.Only.{Inside}
 use Rattle.fields.proofs.Parts.{part, around, around-part, stores-part, part-stores, stores-left, stores-again}
 use Rattle.chains.specs.Chain.{Sector, Ends, fresh, used, blocked, In, Distinct}
 use Rattle.chains.proofs.Laws.{chain-sectors}
-use Rattle.ticket.specs.Kind.{kind, mostOf, limit}
+use Rattle.ticket.specs.Kind.{kind, mostOf}
 use Rattle.image.specs.Image.{B, S, sectorAt, element, sectors, mark, sector, joined, product}
 use Rattle.image.specs.Obeys.{IsProduct, Obeys}
 use Rattle.image.specs.Product.{Seen, elementAt, productAt, seen}

@@ -6,14 +6,9 @@ use Prim.Native.Nat.{ℕ, _+_, _*_, _≤_, _<_}
 use lib.ListN.{length, getD}
 use Rattle.ticket.specs.Kind.{kind, typ, revision, leastOf, countOf, limit}
 use Rattle.image.specs.Image.{mark}
-use Rattle.image.specs.Obeys.{IsProduct, Obeys, Says}
+use Rattle.image.specs.Obeys.{IsProduct, Obeys, Present, Says}
 use Rattle.image.specs.Product.{productAt}
 use Rattle.steps.specs.Step.{Step, write, writeAll, setMark, owner}
-
--- entry j is a product of an acceptable image: none of 1 to 11 and 20 holds
-pub record Present (c : List ℕ) (j : ℕ) : Type 0 where
-  pub obeys : Obeys c
-  pub is-product : IsProduct c j
 
 -- 27: its chain ends in the blocked mark
 abbrev pub Blocked : List ℕ → ℕ → Type 0

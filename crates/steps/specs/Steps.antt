@@ -1,18 +1,21 @@
 -- What a step answers, and the image after it (document 01, "Steps on a product" and "Numbers given back"). Assumes nothing.
-use Prim.Native.Nat.{ℕ, zero, suc, _+_, _-_}
+use Prim.Native.Nat.{ℕ, zero, suc, _-_}
 use mathlib.Core.List.{List, [], _∷_, _++_}
-use lib.ListN.{length, getD}
 use Rattle.fields.specs.declared.Span.{Span}
 use Rattle.fields.specs.Lists.{span, listOf, nth}
 use Rattle.fields.specs.Fields.{stores}
 use Rattle.fields.specs.Shifted.{shifted}
-use Rattle.rules.specs.Claim.{_≡?_, _≤?_, _and_, every, Rule, rule, first}
-use Rattle.ticket.specs.Kind.{kind, countOf, limit, kindRules}
+use Rattle.rules.specs.Claim.{_≤?_, _and_, Rule, rule, first}
+use Rattle.ticket.specs.Kind.{kind, countOf, limit, fitting, kindRules}
 use Rattle.image.specs.Rules.{Verdict}
-use Rattle.image.specs.Product.{Product, Seen, refused, missing, there, seen}
+use Rattle.image.specs.Product.{Product, Seen, refused, missing, there, seen, judgedBy}
 use Rattle.steps.specs.Step.{Step, write, writeAll, setMark, owner}
 
 -- ---- the answer
+
+-- the number n, naming the entry e; success is 0 and 0
+abbrev pub says : ℕ → ℕ → Verdict
+says n e = record { number = n; entry = e }
 
 -- "a field write 20, 27, 22, 23, 25, 26; a record write 20, 27, 22, 23, 26": 27, 22 and 23 of the product p, then the rules rs
 abbrev pub writeRules : Product → List Rule → List Rule
@@ -24,7 +27,7 @@ fieldRule n = rule 25 (1 ≤? n and n ≤? countOf kind)
 
 -- 26: a value for each field, none above its limit
 abbrev pub recordRule : List ℕ → Rule
-recordRule vs = rule 26 (length vs ≡? countOf kind and every (countOf kind) λ i. getD vs i 0 ≤? limit kind (i + 1))
+recordRule vs = rule 26 (fitting vs)
 
 -- after the image's own numbers and 20; "a mark 20, 28, 27", where 27 meets mark 1 on a blocked chain alone: a mark may not fall below the one that is there
 unfoldable pub stepRules : Product → Step → List Rule
@@ -32,18 +35,8 @@ stepRules p (write j n v) = writeRules p (fieldRule n ∷ rule 26 (v ≤? limit 
 stepRules p (writeAll j vs) = writeRules p (recordRule vs ∷ [])
 stepRules p (setMark j m) = rule 28 (1 ≤? m and m ≤? 2) ∷ rule 27 (p .marked ≤? m) ∷ []
 
-abbrev pub says : ℕ → ℕ → Verdict
-says n e = record { number = n; entry = e }
-
--- success is 0 and entry 0; "20 to 28 name the entry asked for"
-abbrev pub named : ℕ → ℕ → Verdict
-named zero j = says 0 0
-named (suc n) j = says (suc n) j
-
 abbrev pub answerOf : Seen → Step → Verdict
-answerOf (refused n e) s = says n e
-answerOf missing s = says 20 (owner s)
-answerOf (there p) s = named (first (stepRules p s)) (owner s)
+answerOf v s = judgedBy v (owner s) (λ p. stepRules p s)
 
 unfoldable pub answer : List ℕ → Step → Verdict
 answer c s = answerOf (seen c (owner s)) s

@@ -13,18 +13,14 @@ use Rattle.bits.proofs.Laws.{lt-or-le, bit-past, field-byte}
 use Rattle.fields.specs.declared.Layout.the-variants.{Typ23}
 use Rattle.fields.specs.Lists.{typ23, nth}
 use Rattle.fields.specs.Fields.{fields, stores, limitOf, lowest}
+use Rattle.fields.specs.Together.{Fit}
 use Rattle.fields.proofs.Joined.{lists-joined}
-use Rattle.fields.proofs.Laws.{Fit, AllLow, fields-stores, stores-onto, field-before, fit-fields, getD-fields, length-fields, length-stores, bytes-stores, lowest-none, none-lowest}
+use Rattle.fields.proofs.Laws.{AllLow, fields-stores, stores-onto, field-before, fit-fields, getD-fields, length-fields, length-stores, bytes-stores, lowest-none, none-lowest}
 use Rattle.ticket.specs.declared.Record.{Record}
 use Rattle.ticket.specs.declared.Encoded.{Encoded}
 use Rattle.ticket.specs.Kind.{kind, mostOf, limit}
 use Rattle.ticket.specs.Ticket.{zeros, bytesOf, encoded, encodeOf, decodeOf}
-use Rattle.ticket.proofs.Limits.{length-most, limit-time, limit-other}
-
--- equal or not
-same-or-not : {G : Type 0} (a b : ℕ) → (a ≡ b → G) → ((a ≡ b → ⊥) → G) → G
-same-or-not a b same other =
-    ⊎-elim (λ h. other (λ q. omega arith)) (λ h. ⊎-elim (λ k. other (λ q. omega arith)) (λ k. same (omega arith)) (lt-or-le b a)) (lt-or-le a b)
+use Rattle.ticket.proofs.Limits.{same-or-not, length-most, limit-time, limit-other, fit-lowest}
 
 -- twenty-two values, none above its limit
 pub record Fits (t : Record) : Type 0 where
@@ -39,24 +35,11 @@ all-low t f j h =
 low-of : (t : Record) → length (t .values) ≡ 22 → AllLow (mostOf kind) (t .values) → Fits t
 low-of t e a = record { many = e; low = λ n h k. a (n - 1) (omega arith) }
 
--- a limit of the ticket is at most what the width holds
-most-low : (j : ℕ) → j < 22 → getD (mostOf kind) j 0 ≤ limitOf (nth typ23 j)
-most-low j h = same-or-not j 8 time other
-  where
-    time : j ≡ 8 → getD (mostOf kind) j 0 ≤ limitOf (nth typ23 j)
-    time q = rw (q, limit-time 9 refl) (omega arith)
-
-    other : (j ≡ 8 → ⊥) → getD (mostOf kind) j 0 ≤ limitOf (nth typ23 j)
-    other ne =
-        let q : j + 1 - 1 ≡ j = omega arith in
-        let e : getD (mostOf kind) j 0 ≡ limitOf (nth typ23 j) = rw q at (limit-other (j + 1) (λ z. ne (omega arith)) (omega arith) (omega arith)) in
-        omega arith
-
-fit : (t : Record) → Fits t → Fit typ23 (t .values)
-fit t f = record { many = f .many; low = λ i h. omega (arith, all-low t f i (omega (arith, f .many)), most-low i h) }
-
 lowest-fits : (t : Record) → Fits t → lowest (mostOf kind) (t .values) ≡ 0
 lowest-fits t f = none-lowest (mostOf kind) (t .values) (length-most ∙ sym (f .many)) (all-low t f)
+
+fit : (t : Record) → Fits t → Fit typ23 (t .values)
+fit t f = fit-lowest (t .values) (f .many) (lowest-fits t f)
 
 -- encoded exactly where it fits, else 26 and zeros
 pub taken : (t : Record) → Fits t → encodeOf t ≡ encoded 0 (bytesOf (t .values))

@@ -3,9 +3,9 @@ use Prim.Native.Nat.{ℕ, _+_, _-_, _*_, _/_}
 use mathlib.Core.List.{List, []}
 use lib.ListN.{length, getD, set}
 use mathlib.Core.List.{_∷_}
-use Rattle.rules.specs.Claim.{_≡?_, _≤?_, Rule, rule}
+use Rattle.rules.specs.Claim.{Claim, _≡?_, _≤?_, _and_, every, Rule, rule}
 use Rattle.fields.specs.declared.Layout.{Layout}
-use Rattle.fields.specs.declared.Layout.the-variants.{Typ23}
+use Rattle.fields.specs.declared.Layout.the-variants.{Image, Shell, Entry, Head, Tail, Header, Typ23}
 use Rattle.fields.specs.Lists.{listOf, endOf}
 use Rattle.fields.specs.Fields.{limits}
 
@@ -31,13 +31,27 @@ leastOf k = 4 * ((endOf k + 31) / 32)
 abbrev pub restOf : Layout → ℕ
 restOf k = endOf k / 8
 
--- the largest value of each field: what its width holds, and 1,439 for ExpiryTime (house: tickets end within the expiry day)
+-- house: a ticket of TYP 23 ends within the expiry day, so that ExpiryTime, its field 9, is at most 1,439
+abbrev pub house : Layout → List ℕ → List ℕ
+house Typ23 ms = set ms 8 1439
+house Image ms = ms
+house Shell ms = ms
+house Entry ms = ms
+house Head ms = ms
+house Tail ms = ms
+house Header ms = ms
+
+-- the largest value of each field: what its width holds, and what the house says
 unfoldable pub mostOf : Layout → List ℕ
-mostOf k = set (limits (listOf k)) 8 1439
+mostOf k = house k (limits (listOf k))
 
 -- the largest value of field n, from 1 on
 abbrev pub limit : Layout → ℕ → ℕ
 limit k n = getD (mostOf k) (n - 1) 0
+
+-- what 26 asks of a record's values: one for each field, none above its limit
+abbrev pub fitting : List ℕ → Claim
+fitting vs = length vs ≡? countOf kind and every (countOf kind) λ i. getD vs i 0 ≤? limit kind (i + 1)
 
 -- numbers 22 and 23, of a product of the given size whose entry says the TYP t and whose header says the revision r and b blocks
 abbrev pub kindRules : ℕ → ℕ → ℕ → ℕ → List Rule

@@ -1,15 +1,14 @@
-// A ticket of TYP 23 revision 2: its record of twenty-two values, and the twenty-seven bytes that hold them.
-use fields::Eight;
+// A ticket of TYP 23 revision 2: what its kind is, its record of twenty-two values, and the record and the header at the front of a slice.
 use fields::Layout;
 ghost use mathlib.Core.Path.{_≡_};
 ghost use Prim.Native.Nat.{_*_, _^_, _≤_, _<_};
-ghost use mathlib.Core.List.{_∷_};
-ghost use lib.ListN.{length, drop};
-ghost use Rattle.fields.specs.Lists as lists;
-ghost use Rattle.fields.specs.Fields.{eightAt, lowest};
-ghost use Rattle.ticket.specs.Kind.{kind, countOf, leastOf, restOf, mostOf, limit};
-ghost use Rattle.ticket.specs.Header.{headerOf, headerBytes};
-ghost use Rattle.ticket.specs.Ticket.{setOf, valueOf, encodeOf, decodeOf, recordIn, endOf};
+ghost use lib.ListN.{length};
+ghost use Rattle.fields.specs.Lists.{listOf};
+ghost use Rattle.rules.specs.Claim.{first};
+ghost use Rattle.fields.specs.Fields.{stores, lowest};
+ghost use Rattle.ticket.specs.Kind.{kind, typ, revision, countOf, leastOf, restOf, mostOf, limit, kindRules};
+ghost use Rattle.ticket.specs.Header.{headerOf};
+ghost use Rattle.ticket.specs.Ticket.{setOf, valueOf, recordIn, endOf};
 
 #[repr(C)]
 pub struct Record {
@@ -54,6 +53,20 @@ pub struct HeaderBytes {
     pub bytes: [u8; 2],
 }
 
+// The TYP that a ticket's entry says.
+pub fn typ() -> u64
+    ensures { λ r. ⌜ r ≡ typ ⌝ }
+{
+    23
+}
+
+// The format revision that its header says.
+pub fn revision() -> u64
+    ensures { λ r. ⌜ r ≡ revision ⌝ }
+{
+    2
+}
+
 // How many fields a ticket has.
 pub fn count() -> usize
     ensures { λ r. ⌜ r ≡ countOf kind ⌝ }
@@ -73,6 +86,27 @@ pub fn rest() -> usize
     ensures { λ r. ⌜ r ≡ restOf kind ⌝ }
 {
     29
+}
+
+// 22 and 23, of a product of `size` bytes whose entry says the TYP t and whose header says the format revision f and `blocks`; 0 where neither is given.
+pub fn kind_number(t: u64, f: u64, blocks: u64, size: usize) -> usize
+    requires { ⌜ blocks < 65536 ⌝ }
+    ensures { λ r. ⌜ r ≡ first (kindRules t f blocks size) ⌝ }
+{
+    if t != typ() {
+        return rules::OTHER_KIND;
+    }
+    if f != revision() {
+        return rules::OTHER_KIND;
+    }
+    let bytes = 4 * blocks as usize;
+    if bytes < least() {
+        return rules::WRONG_EXTENT;
+    }
+    if size < bytes {
+        return rules::WRONG_EXTENT;
+    }
+    0
 }
 
 // The largest value of the field n: what its width holds; ExpiryTime ends within the day.
@@ -188,113 +222,14 @@ impl Record {
     }
 }
 
-// The bytes after the ticket's header.
-fn without_header(ticket: [u8; 29]) -> [u8; 27]
-    ensures { λ r. ⌜ r ≡ drop 2 ticket ⌝ }
-{
-    let mut a = [0u8; 27];
-    let mut i: usize = 0;
-    while i < 27 {
-        a[i] = ticket[i + 2];
-        i += 1;
-    }
-    a
-}
-
-// A ticket with zeros for its header.
-fn with_header(bytes: [u8; 27]) -> [u8; 29]
-    ensures { λ r. ⌜ r ≡ (0 ∷ 0 ∷ bytes) ⌝ }
-{
-    let mut a = [0u8; 29];
-    let mut i: usize = 0;
-    while i < 27 {
-        a[i + 2] = bytes[i];
-        i += 1;
-    }
-    a
-}
-
-// The bytes of a record; or 26 and zeros.
-pub fn encode(t: Record) -> Encoded
-    ensures { λ r. ⌜ r ≡ encodeOf t ⌝ }
-{
-    if 0 < t.lowest_bad() {
-        return Encoded {
-            number: rules::TOO_LARGE,
-            entry: 0,
-            bytes: [0; 27],
-        };
-    }
-    let v = t.values;
-    let mut a = [0u8; 29];
-    fields::write(&mut a, Layout::Typ23, &v);
-    let b = without_header(a);
-    Encoded {
-        number: 0,
-        entry: 0,
-        bytes: b,
-    }
-}
-
-// The fields from RemoveDate to ValidityCode.
-fn front(s: &[u8]) -> Eight
-    requires { ⌜ 232 ≤ 8 * length (now s) ⌝ }
-    ensures { λ r. ⌜ r ≡ eightAt lists.typ23 0 (now (s .entry)) ⌝ }
-{
-    Eight(
-        fields::value(s, Layout::Typ23, 0),
-        fields::value(s, Layout::Typ23, 1),
-        fields::value(s, Layout::Typ23, 2),
-        fields::value(s, Layout::Typ23, 3),
-        fields::value(s, Layout::Typ23, 4),
-        fields::value(s, Layout::Typ23, 5),
-        fields::value(s, Layout::Typ23, 6),
-        fields::value(s, Layout::Typ23, 7),
-    )
-}
-
-// The fields from ExpiryTime to AmountPaidCurrencyCode.
-fn middle(s: &[u8]) -> Eight
-    requires { ⌜ 232 ≤ 8 * length (now s) ⌝ }
-    ensures { λ r. ⌜ r ≡ eightAt lists.typ23 8 (now (s .entry)) ⌝ }
-{
-    Eight(
-        fields::value(s, Layout::Typ23, 8),
-        fields::value(s, Layout::Typ23, 9),
-        fields::value(s, Layout::Typ23, 10),
-        fields::value(s, Layout::Typ23, 11),
-        fields::value(s, Layout::Typ23, 12),
-        fields::value(s, Layout::Typ23, 13),
-        fields::value(s, Layout::Typ23, 14),
-        fields::value(s, Layout::Typ23, 15),
-    )
-}
-
-// The last eight fields: the two before AmountPaid once more, to CPICC.
-fn back(s: &[u8]) -> Eight
-    requires { ⌜ 232 ≤ 8 * length (now s) ⌝ }
-    ensures { λ r. ⌜ r ≡ eightAt lists.typ23 14 (now (s .entry)) ⌝ }
-{
-    Eight(
-        fields::value(s, Layout::Typ23, 14),
-        fields::value(s, Layout::Typ23, 15),
-        fields::value(s, Layout::Typ23, 16),
-        fields::value(s, Layout::Typ23, 17),
-        fields::value(s, Layout::Typ23, 18),
-        fields::value(s, Layout::Typ23, 19),
-        fields::value(s, Layout::Typ23, 20),
-        fields::value(s, Layout::Typ23, 21),
-    )
-}
-
 // The record of the ticket that starts with the slice.
 pub fn record_in(s: &[u8]) -> Record
     requires { ⌜ 232 ≤ 8 * length (now s) ⌝ }
     ensures { λ r. ⌜ r ≡ recordIn (now (s .entry)) ⌝ }
 {
-    let a = front(s);
-    let b = middle(s);
-    let c = back(s);
+    let a = typ23::front(s);
+    let b = typ23::middle(s);
+    let c = typ23::back(s);
     Record {
         values: [
             a.0,
@@ -323,12 +258,13 @@ pub fn record_in(s: &[u8]) -> Record
     }
 }
 
-// The record that the bytes hold.
-pub fn decode(bytes: [u8; 27]) -> Record
-    ensures { λ r. ⌜ r ≡ decodeOf bytes ⌝ }
+// Stores a record whose values are at most their limits, in the ticket that starts with the slice.
+pub fn store_record(s: &mut [u8], t: Record)
+    requires { ⌜ (232 ≤ 8 * length (now s)) × (lowest (mostOf kind) (t .values) ≡ 0) ⌝ }
+    ensures { λ _. ⌜ now (s .exit) ≡ stores (now (s .entry)) (listOf kind) (t .values) ⌝ }
 {
-    let a = with_header(bytes);
-    record_in(&a)
+    let v = t.values;
+    typ23::store_all(s, &v)
 }
 
 // The header of the ticket that starts with the slice.
@@ -342,26 +278,6 @@ pub fn header_in(s: &[u8]) -> Header
             fields::value(s, Layout::Header, 1),
             fields::value(s, Layout::Header, 2),
         ],
-    }
-}
-
-// The header that the two bytes hold.
-pub fn decode_header(bytes: [u8; 2]) -> Header
-    ensures { λ r. ⌜ r ≡ headerOf bytes ⌝ }
-{
-    header_in(&bytes)
-}
-
-// The two bytes of a header; or 26 and zeros.
-pub fn encode_header(values: [u64; 3]) -> HeaderBytes
-    ensures { λ r. ⌜ r ≡ headerBytes values ⌝ }
-{
-    let mut bytes = [0u8; 2];
-    let number = fields::pack(Layout::Header, &values, &mut bytes);
-    HeaderBytes {
-        number: number,
-        entry: 0,
-        bytes: bytes,
     }
 }
 

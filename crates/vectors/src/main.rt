@@ -1,5 +1,4 @@
 // Answers the lines of a test, one by one: every command of the desk, and those by which an image is made and bytes are decoded.
 fn main() {
-    let mut image = [0u8; 65536];
-    console::run(&mut image, 0, true);
+    console::trial();
 }

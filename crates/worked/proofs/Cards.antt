@@ -17,7 +17,7 @@ use Rattle.image.specs.Image.{stated, version, copy, shellValues, dataset, B, S
 use Rattle.image.specs.Product.{elementAt, productAt, seen}
 use Rattle.image.specs.Rules.{rules, brokenAt, sharesAt, Verdict, verdict}
 use Rattle.ticket.specs.Kind.{mostOf}
-use Rattle.reads.specs.Asked.{asked}
+use Rattle.image.specs.Product.{asked}
 use Rattle.reads.specs.Ticket.{refusal, readTicket}
 use Rattle.worked.specs.Cards.{shellStart, shellSector, directory, card, card17, smallCard}
 use Rattle.worked.specs.Worked.{at}

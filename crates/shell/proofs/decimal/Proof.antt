@@ -1,54 +1,22 @@
--- `shell::decimal` meets its contract. The invariant: the first k digits, tested one by one, are the claim's. Assumes nothing.
-use mathlib.Core.Path.{_≡_, refl}
-use mathlib.Core.Bool.{Bool, _&&_}
-use Prim.Native.Nat.{ℕ, _+_, _-_, _*_, _/_, _%_, _^_, _≤_}
-use native.Mathlib.Numerals.{add-one}
+-- `shell::decimal` meets its contract: 32 bits shifted by one or by two lose none, and no digit is marked exactly where all are decimal. Assumes nothing.
+use mathlib.Core.Path.{_≡_}
+use Prim.Native.Nat.{ℕ, _*_, _%_, _^_, _<_}
 use native.Mathlib.Omega.{arith}
-use lib.Dec.{leb}
-use borrow.Author.Needs.{needs}
-use Rattle.rules.specs.Claim.{all, holds}
+use lib.Dec.{eqb}
+use lib.Bits.{bitAnd, bitOr}
+use lib.Pow.{shl-exact}
+use Rattle.rules.specs.Claim.{holds}
 use Rattle.shell.specs.Shell.{decimal}
+use Rattle.shell.proofs.Digits.{word}
 use Rattle.shell.proofs.decimal.Statement.{statement}
 use Rattle.shell.proofs.decimal.Tie as tie
 
-abbrev Inv-loop : tie.InvT-loop
-Inv-loop v digits ok₀ k₀ ok k = (k ≤ digits) × (ok ≡ holds (decimal k v))
+tested : (v : ℕ) → v < 2 ^ 32
+    → eqb (bitAnd (bitAnd v (bitOr (v * 2 ^ 1 % 2 ^ 64) (v * 2 ^ 2 % 2 ^ 64))) 0x88888888) 0 ≡ holds (decimal 8 v)
+tested v h = rw (shl-exact {a = v} 32 1 64 h (omega arith), shl-exact {a = v} 32 2 64 h (omega arith)) (word 8 v (omega arith) h)
 
-abbrev μ-loop : tie.MeasureT-loop
-μ-loop v digits ok₀ k₀ ok k = digits - k
-
-turn : (v k : ℕ) (ok : Bool) → ok ≡ holds (decimal k v) → (ok && leb (v / 2 ^ (4 * k) % 16) 9) ≡ holds (decimal (k + 1) v)
-unfolding all
-turn v k ok h = rw (add-one, h)
-
-loop-holds : tie.Need-loop-holds Inv-loop μ-loop
-unfolding all
-loop-holds c = (omega arith, refl)
-
-mul-ok : tie.Need-mul-ok Inv-loop μ-loop
-mul-ok c = search needs
-
-shr-ok : tie.Need-shr-ok Inv-loop μ-loop
-shr-ok c = search needs
-
-add-k : tie.Need-add-k Inv-loop μ-loop
-add-k c = search needs
-
-loop-less : tie.Need-loop-less Inv-loop μ-loop
-loop-less c = search needs
-
-loop-again : tie.Need-loop-again Inv-loop μ-loop
-loop-again c =
-    let l = c .before .loop in
-    (omega arith, turn (c .before .before .args .v) (l .k) (l .ok) (l .inv .1))
-
-returns : tie.Need-returns Inv-loop μ-loop
-returns c =
-    let l = c .before .loop in
-    let e : l .k ≡ c .before .before .args .digits = omega arith in
-    rw (← e) (l .inv .1)
+returns : tie.Need-returns
+returns c = tested (c .args .v) (c .pre)
 
 pub decimal-spec : {M : Type 1} → statement M
-decimal-spec =
-    tie.close
-    (tie.spec Inv-loop μ-loop loop-holds mul-ok shr-ok add-k loop-less loop-again returns)
+decimal-spec = tie.close (tie.spec returns)

@@ -1,7 +1,7 @@
 -- `shell::judge` meets its contract: each test is that of its rule, in their order. Assumes nothing.
 use mathlib.Core.Path.{sym, _∙_}
 use native.Mathlib.Omega.{arith}
-use Rattle.shell.proofs.Rules.{short, judged, wide}
+use Rattle.shell.proofs.Rules.{narrow, judged, wide}
 use borrow.Author.Needs.{needs}
 use Rattle.shell.proofs.judge.Statement.{statement}
 use Rattle.shell.proofs.judge.Tie as tie
@@ -14,47 +14,53 @@ shared-slice-read-size c = search needs
 
 mul-size : tie.Need-mul-size
 mul-size c =
-    let a = c .before .before .before .before .args in
-    omega (arith, short (a .v .now) (sym (c .before .before .all-fit .ensures) ∙ c .before .if1 .taken))
+    let i = c .before in
+    omega (arith, narrow (i .before .before .before .args .v .now) (sym (i .before .all-fit .ensures) ∙ i .if1 .taken))
 
 need-requires : tie.Need-need-requires
-need-requires c κs = search needs
+need-requires c κs = tt
 
 shared-slice-read-decimal : tie.Need-shared-slice-read-decimal
 shared-slice-read-decimal c = search needs
 
 decimal-requires : tie.Need-decimal-requires
-decimal-requires c κs = search needs
+decimal-requires c κs =
+    let i = c .before .before .before in
+    omega (arith, narrow (i .before .before .before .args .v .now) (sym (i .before .all-fit .ensures) ∙ i .if1 .taken))
 
 need-requires-2 : tie.Need-need-requires-2
-need-requires-2 c κs = search needs
+need-requires-2 c κs = tt
 
 shared-slice-read-decimal-2 : tie.Need-shared-slice-read-decimal-2
 shared-slice-read-decimal-2 c = search needs
 
 decimal-requires-2 : tie.Need-decimal-requires-2
-decimal-requires-2 c κs = search needs
+decimal-requires-2 c κs =
+    let i = c .before .before .before .before .before .before in
+    omega (arith, narrow (i .before .before .before .args .v .now) (sym (i .before .all-fit .ensures) ∙ i .if1 .taken))
 
 need-requires-3 : tie.Need-need-requires-3
-need-requires-3 c κs = search needs
+need-requires-3 c κs = tt
 
 shared-slice-read-decimal-3 : tie.Need-shared-slice-read-decimal-3
 shared-slice-read-decimal-3 c = search needs
 
 decimal-requires-3 : tie.Need-decimal-requires-3
-decimal-requires-3 c κs = search needs
+decimal-requires-3 c κs =
+    let i = c .before .before .before .before .before .before .before .before .before in
+    omega (arith, narrow (i .before .before .before .args .v .now) (sym (i .before .all-fit .ensures) ∙ i .if1 .taken))
 
 need-requires-4 : tie.Need-need-requires-4
-need-requires-4 c κs = search needs
+need-requires-4 c κs = tt
 
 need-requires-5 : tie.Need-need-requires-5
-need-requires-5 c κs = search needs
+need-requires-5 c κs = tt
 
 shared-slice-read-need : tie.Need-shared-slice-read-need
 shared-slice-read-need c = search needs
 
 need-requires-6 : tie.Need-need-requires-6
-need-requires-6 c κs = search needs
+need-requires-6 c κs = tt
 
 returns : tie.Need-returns
 returns c =

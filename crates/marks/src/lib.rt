@@ -1,0 +1,71 @@
+// The mark of a product's chain: does its own checking, and stores through the part of the image that is the directory sector in force.
+use chains::Table;
+use image::Found;
+use image::Shape;
+use rules::BLOCKED;
+use rules::NO_MARK;
+use steps::Answer;
+ghost use mathlib.Core.Path.{_≡_};
+ghost use mathlib.Core.List.{[], _∷_};
+ghost use Prim.Native.Nat.{_-_, _≤_};
+ghost use Rattle.bits.specs.Bits.{store};
+ghost use Rattle.rules.specs.Claim.{_≤?_, _and_, rule, first};
+ghost use Rattle.chains.specs.Chain.{Sector};
+ghost use Rattle.chains.specs.Psi.{Ψ};
+ghost use Rattle.image.specs.Image.{S};
+ghost use Rattle.image.specs.Shape.{Shaped};
+ghost use Rattle.image.specs.Product.{elementAt};
+ghost use Rattle.steps.specs.Step.{setMark};
+ghost use Rattle.steps.specs.Steps.{answer, next};
+ghost use Rattle.steps.specs.Answers.{answered};
+
+// 28 and 27 of a mark, on a chain that has the mark `old`; 0 where neither is given.
+fn mark_number(mark: usize, old: u8) -> usize
+    ensures { λ r. ⌜ r ≡ first (rule 28 (1 ≤? mark and mark ≤? 2) ∷ rule 27 (old ≤? mark) ∷ []) ⌝ }
+{
+    if mark < 1 {
+        return NO_MARK;
+    }
+    if 2 < mark {
+        return NO_MARK;
+    }
+    if mark < old as usize {
+        return BLOCKED;
+    }
+    0
+}
+
+// Stores the element of a chain's last sector, in the part of the image that is the directory sector in force.
+fn store_mark(image: &mut [u8], g: Shape, last: usize, mark: usize)
+    requires { ⌜ Shaped (now image) g ⌝ }
+    requires { ⌜ Sector (g .sectors) last ⌝ }
+    requires { ⌜ (1 ≤ mark) × (mark ≤ 2) ⌝ }
+    ensures { λ _. ⌜ now (image .exit) ≡ store (now (image .entry)) (elementAt (now (image .entry)) last) (Ψ (S (now (image .entry)))) (S (now (image .entry)) - mark) ⌝ }
+{
+    let size = g.size;
+    let from = g.directory;
+    let to = from + size;
+    let table = Table {
+        first: 16 + 40 * g.entries,
+        psi: g.psi,
+        sectors: g.sectors,
+    };
+    chains::put_element(&mut image[from..to], table, last, g.sectors - mark)
+}
+
+// Marks a product's chain: 1 for used, 2 for blocked. Refused: the image's own numbers, 20, 28, 27.
+pub fn mark(image: &mut [u8], entry: usize, mark: usize) -> Answer
+    ensures { λ r. ⌜ (r ≡ answered (answer (now (image .entry)) (setMark entry mark))) × (now (image .exit) ≡ next (now (image .entry)) (setMark entry mark)) ⌝ }
+{
+    match verdict::find(image, entry) {
+        Found::There(g, last, _, old) => {
+            let n = mark_number(mark, old);
+            if n != 0 {
+                return Answer::Refused(n, entry);
+            }
+            store_mark(image, g, last, mark);
+            Answer::Taken
+        }
+        Found::Not(n, e) => Answer::Refused(n, e),
+    }
+}

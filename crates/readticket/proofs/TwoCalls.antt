@@ -1,0 +1,137 @@
+-- The two calls that read a ticket: what each answers where the checks take the read and where they refuse it, and that they agree.
+-- Assumes nothing.
+use mathlib.Core.Path.{_≡_, refl, _∙_}
+use mathlib.Core.List.{List, [], _∷_}
+use Prim.Native.Nat.{ℕ, zero, suc, _+_, _-_, _*_, _^_, _≤_, _<_}
+use native.Mathlib.Omega.{arith}
+use lib.ListN.{length, take, drop, length-append, length-drop}
+use lib.Seq.{drop-append-le, take-append-le}
+use Rattle.bits.proofs.Laws.{field-below}
+use Rattle.fields.specs.Fields.{fields}
+use Rattle.fields.specs.Lists.{listOf}
+use Rattle.fields.specs.declared.Layout.the-variants.{Header}
+use Rattle.ticket.specs.Kind.{kind}
+use Rattle.image.specs.Image.{mark, sectors, product}
+use Rattle.image.specs.Product.{productAt}
+use Rattle.image.specs.Shape.{Shaped}
+use Rattle.reads.specs.Ticket.{refusal, endOf, readTicket, bufferAfter, extent, filledBy, fillOf, restBy, rest, restAt}
+use Rattle.reads.specs.declared.TicketRead.{TicketRead}
+use Rattle.readchecks.specs.declared.Sound.{Sound}
+use Rattle.reads.specs.declared.Filled.the-variants.{End, Refused}
+use Rattle.reads.proofs.Given.{value-refused, values-refused}
+use Rattle.reads.proofs.Known.{Barred}
+use Rattle.reads.proofs.Passed.{passed}
+use Rattle.reads.proofs.Sectors.{start-in}
+use Rattle.readchecks.proofs.Taken.{Taking}
+
+abbrev answer : ℕ → ℕ → List ℕ → List ℕ → ℕ → ℕ → ℕ → TicketRead
+answer n e h v d m s = record { number = n; entry = e; header = h; values = v; end = d; mark = m; sectors = s }
+
+filled-refused : (n e x : ℕ) → (n ≡ 0 → ⊥) → Refused n e ≡ filledBy n e x
+filled-refused zero e x h = absurd (h refl)
+filled-refused (suc n) e x h = refl
+
+module _ (c : List ℕ) (j room : ℕ) where
+  -- taken
+  module _ {f : Sound} (k : Taking c j room f) where
+    pub sound-shape : Shaped c (f .shape)
+    sound-shape = rw (k .sound-is) (k .known .opened .shape)
+
+    -- the product's first thirty-two bytes lie within the image
+    pub start-within : (4 + j * f .shape .size + 32 ≤ length c) × (length c ≤ 65029)
+    start-within = (start-in sound-shape (k .known .there), sound-shape .in-bounds .length-top)
+
+    pub day-below : f .day < 2 ^ 14
+    day-below = rw (k .sound-is) (field-below _ 26 14 14 (omega arith))
+
+    pub minutes-below : f .minutes < 1440
+    minutes-below = rw (k .sound-is) (k .in-day)
+
+    -- the header that the checks have read
+    header-is : (f .blocks ∷ f .map ∷ f .revision ∷ []) ≡ fields (product c j) (listOf Header)
+    unfolding fields
+    header-is = rw (k .sound-is)
+
+    pub read-taken : {v : List ℕ} {d : ℕ} → v ≡ fields (product c j) (listOf kind) → d ≡ endOf c j
+        → answer 0 0 (f .blocks ∷ f .map ∷ f .revision ∷ []) v d (f .mark) (f .sectors) ≡ readTicket c j room
+    unfolding readTicket
+    read-taken b e = rw (header-is, k .number-zero, k .entry-zero, k .sound-is, b, e)
+
+    pub fill-taken : End (f .extent) ≡ fillOf c j room
+    unfolding fillOf
+    fill-taken = rw (k .number-zero, k .sound-is)
+
+  -- refused
+  module _ {n e : ℕ} (s : Barred (refusal c j room) n e) where
+    pub read-refused : answer n e (0 ∷ 0 ∷ 0 ∷ []) (0 ∷ 0 ∷ 0 ∷ 0 ∷ 0 ∷ 0 ∷ 0 ∷ 0 ∷ 0 ∷ 0 ∷ 0 ∷ 0 ∷ 0 ∷ 0 ∷ 0 ∷ 0 ∷ 0 ∷ 0 ∷ 0 ∷ 0 ∷ 0 ∷ 0 ∷ []) 0 0 0 ≡ readTicket c j room
+    unfolding readTicket
+    read-refused =
+        rw (s .number-is, s .entry-is, values-refused n 3 (fields (product c j) (listOf Header)) (s .some), values-refused n 22 (fields (product c j) (listOf kind)) (s .some), value-refused n (endOf c j) (s .some), value-refused n (mark c j) (s .some), value-refused n (length (sectors c j)) (s .some))
+
+    pub fill-refused : Refused n e ≡ fillOf c j room
+    unfolding fillOf
+    fill-refused = rw (s .number-is, s .entry-is) (filled-refused n e (extent c j) (s .some))
+
+-- ---- the part of the second call
+
+-- what is known where `fill` has given the end x
+pub record Ending (c : List ℕ) (j room x : ℕ) : Type 0 where
+  pub number-zero : refusal c j room .number ≡ 0
+  pub extent-is : x ≡ extent c j
+  pub least : 32 ≤ x
+  pub in-product : x ≤ length (product c j)
+  pub in-room : length (product c j) ≤ room
+
+module _ (c : List ℕ) (j room : ℕ) where
+  pub fill-ends : {x : ℕ} → fillOf c j room ≡ End x → Ending c j room x
+  unfolding fillOf productAt
+  fill-ends {x} q = go (refusal c j room .number) refl q
+    where
+      go : (n : ℕ) → refusal c j room .number ≡ n → filledBy n (refusal c j room .entry) (extent c j) ≡ End x → Ending c j room x
+      go (suc n) z w = absurd (let y : _≡_ {A = ℕ} 0 1 = cc in omega arith)
+      go zero z w =
+          let k = passed c j room z .rules-kept in
+          let e : x ≡ extent c j = cc in
+          record { number-zero = z; extent-is = e; least = rw e (k .1 .1 .1 .0); in-product = rw e (k .1 .1 .1 .1 .0); in-room = k .0 }
+
+  pub fill-barred : {n e : ℕ} → fillOf c j room ≡ Refused n e → Barred (refusal c j room) n e
+  unfolding fillOf
+  fill-barred {n} {e} q = go (refusal c j room .number) refl q
+    where
+      go : (m : ℕ) → refusal c j room .number ≡ m → filledBy m (refusal c j room .entry) (extent c j) ≡ Refused n e → Barred (refusal c j room) n e
+      go zero z w = absurd (let y : _≡_ {A = ℕ} 0 1 = cc in omega arith)
+      go (suc m) z w =
+          let i : suc m ≡ n = cc in
+          let k : refusal c j room .entry ≡ e = cc in
+          record { number-is = z ∙ i; entry-is = k; some = λ y. omega arith }
+
+  module _ {n e : ℕ} (s : Barred (refusal c j room) n e) where
+    pub rest-none : rest c j room ≡ []
+    unfolding rest
+    rest-none = rw (s .number-is) (go n (s .some))
+      where
+        go : (n : ℕ) → (n ≡ 0 → ⊥) → restBy n (product c j) (extent c j) ≡ []
+        go zero h = absurd (h refl)
+        go (suc n) h = refl
+
+    pub rest-nowhere : restAt c j room ≡ 0
+    unfolding restAt
+    rest-nowhere = rw (s .number-is) (value-refused n 29 (s .some))
+
+  pub rest-from : {x : ℕ} → Ending c j room x → restAt c j room ≡ 29
+  unfolding restAt
+  rest-from k = rw (k .number-zero)
+
+-- the buffer keeps its length
+pub after-length : (c : List ℕ) (j : ℕ) (b : List ℕ) {x : ℕ} → Ending c j (length b) x → length (bufferAfter c j b) ≡ length b
+unfolding bufferAfter
+after-length c j b k =
+    rw (k .number-zero, length-append (product c j) (drop (length (product c j)) b), length-drop (length (product c j)) b) (omega (arith, k .in-room))
+
+-- the part of the filled buffer from byte 29 on is the rest of the dataset
+pub rest-part : (c : List ℕ) (j : ℕ) (b : List ℕ) {x : ℕ} → Ending c j (length b) x → (s : ℕ) → s ≡ 29 → take (x - s) (drop s (bufferAfter c j b)) ≡ rest c j (length b)
+unfolding bufferAfter rest
+rest-part c j b {x} k s e =
+    let l : x - 29 ≤ length (drop 29 (product c j)) = simp length-drop (omega (arith, k .in-product)) in
+    rw (e, k .number-zero, ← k .extent-is, drop-append-le 29 (product c j) (drop (length (product c j)) b) (omega (arith, k .least, k .in-product)))
+    (take-append-le (x - 29) (drop 29 (product c j)) _ l)

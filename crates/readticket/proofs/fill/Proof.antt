@@ -1,0 +1,44 @@
+-- `readticket::fill` meets its contract: `take` has filled the buffer and tells the dataset's end. Assumes nothing.
+use mathlib.Core.Path.{sym, _∙_}
+use Rattle.readchecks.proofs.Taken.{judged-taken, judged-refused}
+use Rattle.readticket.proofs.TwoCalls.{fill-taken, fill-refused}
+use borrow.Author.Needs.{needs}
+use Rattle.readticket.proofs.fill.Statement.{statement}
+use Rattle.readticket.proofs.fill.Tie as tie
+
+take-requires : tie.Need-take-requires
+take-requires c κs = search needs
+
+enum-known-sound : tie.Need-enum-known-sound
+enum-known-sound c = search needs
+
+enum-known-n : tie.Need-enum-known-n
+enum-known-n c = search needs
+
+same-length : tie.Need-same-length
+same-length c = search needs
+
+returns : tie.Need-returns
+returns c =
+    let e = c .before .before .before .before .before .take .ensures in
+    (fill-taken _ _ _ (judged-taken _ _ _ _ (sym (e .0) ∙ c .before .sound .given .1)), e .1)
+
+same-length-2 : tie.Need-same-length-2
+same-length-2 c = search needs
+
+returns-2 : tie.Need-returns-2
+returns-2 c =
+    let e = c .before .before .before .before .before .take .ensures in
+    (fill-refused _ _ _ (judged-refused _ _ _ (sym (e .0) ∙ c .before .n .given .1)), e .1)
+
+pub fill-spec : {M : Type 1} → statement M
+fill-spec =
+    tie.close
+    (tie.spec
+    take-requires
+    enum-known-sound
+    enum-known-n
+    same-length
+    returns
+    same-length-2
+    returns-2)

@@ -1,0 +1,55 @@
+-- `readticket::take` meets its contract: the product is copied only where every check has passed. Assumes nothing.
+use mathlib.Core.Path.{refl, sym, _∙_}
+use native.Mathlib.Omega.{arith}
+use lib.ListN.{length}
+use Rattle.reads.specs.Ticket.{bufferAfter}
+use Rattle.reads.proofs.Given.{lent-refused}
+use Rattle.reads.proofs.Sectors.{size-is}
+use Rattle.readchecks.proofs.Taken.{Taking, judged-taken, judged-refused}
+use borrow.Author.Needs.{needs}
+use Rattle.readticket.proofs.take.Statement.{statement}
+use Rattle.readticket.proofs.take.Tie as tie
+
+-- the read is taken
+taking : (c : tie.After-judged) → Taking (c .before .before .before .before .before .args .image .now) (c .before .before .before .before .before .args .entry) (length (c .before .before .before .before .before .args .buffer .now)) (c .judged .given .0 .0)
+taking c = judged-taken _ _ _ _ (sym (c .before .before .judge .ensures) ∙ c .judged .given .1)
+
+judge-requires : tie.Need-judge-requires
+judge-requires c κs = search needs
+
+enum-known-judged : tie.Need-enum-known-judged
+enum-known-judged c = search needs
+
+enum-told : tie.Need-enum-told
+enum-told c = search needs
+
+returns : tie.Need-returns
+unfolding bufferAfter
+returns c =
+    let s = judged-refused _ _ _ (sym (c .before .before .judge .ensures) ∙ c .enum-told .given .1) in
+    (c .before .before .judge .ensures, rw (s .number-is) (sym (lent-refused _ _ _ (s .some))))
+
+copy-product-requires : tie.Need-copy-product-requires
+copy-product-requires c κs =
+    let k = taking (c .before .before) in
+    let t = k .known .there in
+    rw (k .sound-is) (k .known .opened .shape, (t, (refl, omega (arith, k .room-enough, size-is t))))
+
+same-length : tie.Need-same-length
+same-length c = search needs
+
+returns-2 : tie.Need-returns-2
+unfolding bufferAfter
+returns-2 c = (sym (c .before .before .before .before .before .judged .given .1) ∙ c .before .before .before .before .before .before .before .judge .ensures, rw (taking (c .before .before .before .before .before) .number-zero) (c .before .before .copy-product .ensures))
+
+pub take-spec : {M : Type 1} → statement M
+take-spec =
+    tie.close
+    (tie.spec
+    judge-requires
+    enum-known-judged
+    enum-told
+    returns
+    copy-product-requires
+    same-length
+    returns-2)

@@ -1,0 +1,80 @@
+// Reading a ticket: the checks, and then the copy into the lent buffer. Refused, a call gives the number, the entry and zeros in all else, and
+// the buffer keeps its bytes.
+use readchecks::Judged;
+use reads::Filled;
+use reads::TicketRead;
+ghost use mathlib.Core.Path.{_≡_};
+ghost use Prim.Native.Nat.{_+_};
+ghost use lib.ListN.{length};
+ghost use Rattle.reads.specs.Ticket.{readTicket, fillOf, bufferAfter, rest, restAt};
+ghost use Rattle.readchecks.specs.Checks.{judgedIn};
+
+// Copies the product of a ticket that has passed the checks into the buffer.
+fn take(image: &[u8], entry: usize, buffer: &mut [u8]) -> Judged
+    ensures { λ r. ⌜ r ≡ judgedIn (now (image .entry)) entry (length (now (buffer .entry))) ⌝ }
+    ensures { λ _. ⌜ now (buffer .exit) ≡ bufferAfter (now (image .entry)) entry (now (buffer .entry)) ⌝ }
+{
+    let judged = readchecks::judge(image, entry, buffer.len());
+    let Judged::Taken(sound) = judged else {
+        return judged;
+    };
+    copies::copy_product(image, sound.shape, entry, sound.sectors, buffer);
+    judged
+}
+
+// Copies the product of a ticket into the buffer, and reads the ticket.
+pub fn read_ticket(image: &[u8], entry: usize, buffer: &mut [u8]) -> TicketRead
+    ensures { λ r. ⌜ r ≡ readTicket (now (image .entry)) entry (length (now (buffer .entry))) ⌝ }
+    ensures { λ _. ⌜ now (buffer .exit) ≡ bufferAfter (now (image .entry)) entry (now (buffer .entry)) ⌝ }
+{
+    match take(image, entry, buffer) {
+        Judged::Taken(sound) => {
+            let start = 4 + entry * sound.shape.size;
+            let first = &image[start..];
+            let record = ticket::record_in(first);
+            let values = record.values;
+            TicketRead {
+                number: 0,
+                entry: 0,
+                header: [sound.blocks, sound.map, sound.revision],
+                values: values,
+                end: ticket::end(sound.day, sound.minutes),
+                mark: sound.mark as usize,
+                sectors: sound.sectors,
+            }
+        }
+        Judged::Refused(n, e) => TicketRead {
+            number: n,
+            entry: e,
+            header: [0; 3],
+            values: [0; 22],
+            end: 0,
+            mark: 0,
+            sectors: 0,
+        },
+    }
+}
+
+// Copies likewise; the answer is where the dataset ends.
+pub fn fill(image: &[u8], entry: usize, buffer: &mut [u8]) -> Filled
+    ensures { λ r. ⌜ r ≡ fillOf (now (image .entry)) entry (length (now (buffer .entry))) ⌝ }
+    ensures { λ _. ⌜ now (buffer .exit) ≡ bufferAfter (now (image .entry)) entry (now (buffer .entry)) ⌝ }
+{
+    match take(image, entry, buffer) {
+        Judged::Taken(sound) => Filled::End(sound.extent),
+        Judged::Refused(n, e) => Filled::Refused(n, e),
+    }
+}
+
+// Copies likewise, and hands back the dataset bytes after the fixed fields, as a part of that buffer; refused, the empty part.
+pub fn rest<'a>(image: &[u8], entry: usize, buffer: &'a mut [u8]) -> &'a mut [u8]
+    ensures { λ r. ⌜ now r ≡ rest (now (image .entry)) entry (length (now (buffer .entry))) ⌝ }
+    ensures { λ r. ⌜ (r .ptr .0 ≡ buffer .entry .ptr .0) × (r .ptr .1 ≡ restAt (now (image .entry)) entry (length (now (buffer .entry))) + buffer .entry .ptr .1) ⌝ }
+{
+    let d = fill(image, entry, buffer);
+    let Filled::End(end) = d else {
+        return &mut buffer[0..0];
+    };
+    let from = ticket::rest();
+    &mut buffer[from..end]
+}

@@ -1,0 +1,4 @@
+pub mod Buffer
+pub mod Places
+pub mod Round
+pub mod Rules

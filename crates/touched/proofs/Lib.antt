@@ -1,0 +1,4 @@
+pub mod Alike
+pub mod Compare
+pub mod Flags
+pub mod Pairs

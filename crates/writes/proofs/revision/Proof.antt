@@ -1,0 +1,32 @@
+-- `writes::revision` meets its contract: the header stands at the start of the product's first sector. Assumes nothing.
+use Rattle.writes.proofs.Numbers.{at-most, header-room, revision-read}
+use native.Mathlib.Omega.{arith}
+use borrow.Author.Needs.{needs}
+use Rattle.writes.proofs.revision.Statement.{statement}
+use Rattle.writes.proofs.revision.Tie as tie
+
+mul-at : tie.Need-mul-at
+mul-at c = omega (arith, at-most (c .before .before .pre .0) (c .before .before .pre .1))
+
+add-at : tie.Need-add-at
+add-at c = omega (arith, at-most (c .before .before .pre .0) (c .before .before .pre .1))
+
+sub-value : tie.Need-sub-value
+sub-value c = omega (arith, at-most (c .before .before .pre .0) (c .before .before .pre .1))
+
+part-value-start : tie.Need-part-value-start
+part-value-start c = omega (arith, at-most (c .before .before .pre .0) (c .before .before .pre .1))
+
+part-value-end : tie.Need-part-value-end
+part-value-end c = search needs
+
+value-requires : tie.Need-value-requires
+value-requires c κs = (omega arith, header-room (c .before .before .before .pre .0) (c .before .before .before .pre .1))
+
+returns : tie.Need-returns
+returns c = revision-read (c .before .before .before .before .pre .0) (c .before .before .before .before .pre .1) _ (c .value .ensures)
+
+pub revision-spec : {M : Type 1} → statement M
+revision-spec =
+    tie.close
+    (tie.spec mul-at add-at sub-value part-value-start part-value-end value-requires returns)
