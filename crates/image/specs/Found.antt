@@ -11,7 +11,8 @@ use Rattle.image.specs.Shape.{shapeOf}
 use Rattle.image.specs.declared.Found.{Found}
 use Rattle.image.specs.declared.Found.the-variants.{There, Not}
 
--- of a product: the shape of the image, and of its chain the last sector, the number of sectors and the mark
+-- "Image numbers 1 to 11 come first", then 20: entry 0, above e#, or empty; of a product, the shape of the image, and of its chain the last sector,
+-- the number of sectors and the mark
 abbrev pub foundIn : Seen → List ℕ → ℕ → Found
 foundIn (refused n e) c j = Not n e
 foundIn missing c j = Not 20 j

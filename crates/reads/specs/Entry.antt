@@ -19,6 +19,7 @@ refusal c j = asked c j (λ p. [])
 abbrev pub entryValues : List ℕ → ℕ → List ℕ
 entryValues c j = fields (drop (entryAt c j) c) lists.entry
 
+-- EF, OID, TYP, PTYP, VGP, IINL, EXP
 unfoldable pub readEntry : List ℕ → ℕ → EntryRead
 readEntry c j =
     record { number = refusal c j .number; entry = refusal c j .entry; values = values (refusal c j .number) 7 (entryValues c j) }
