@@ -1,339 +1,461 @@
-/* The work of the card library as an embedded engineer would write it in C: byte-wise CRC by table, one pass over the chains,
-   memcpy for sectors, every call checking the whole image itself. It answers as include/card.h says. */
+/* The calls that bench/run measures, in C: as careful as the library, for each checks the whole image, and as fast as we could write it.
+   It answers as include/card.h says. */
 #include "../include/card.h"
 
-typedef unsigned char u8;
-typedef unsigned short u16;
+typedef uint8_t u8;
+typedef uint16_t u16;
+typedef uint32_t u32;
+typedef uint64_t u64;
 
-extern void *memcpy(void *, const void *, unsigned long);
-extern void *memset(void *, int, unsigned long);
+void *memset(void *, int, size_t);
+int memcmp(const void *, const void *, size_t);
 
-static const u16 crc_table[256] = {
-#include "crc_table.h"
+#define INLINE static inline __attribute__((always_inline))
+#define STAGE static __attribute__((noinline))
+#define RARE static __attribute__((noinline, cold))
+#define UNLIKELY(x) __builtin_expect(!!(x), 0)
+#define REFUSE(when, number) do { if (UNLIKELY(when)) return (number); } while (0)
+
+/* ---- words at any address: a copy of fixed size is one load or store */
+
+#if __BYTE_ORDER__ == __ORDER_LITTLE_ENDIAN__
+#define BIG(bits, x) __builtin_bswap##bits(x)
+#define LITTLE(bits, x) (x)
+#else
+#define BIG(bits, x) (x)
+#define LITTLE(bits, x) __builtin_bswap##bits(x)
+#endif
+
+INLINE u32 be16(const u8 *p) { u16 x; __builtin_memcpy(&x, p, 2); return BIG(16, x); }
+INLINE u32 be32(const u8 *p) { u32 x; __builtin_memcpy(&x, p, 4); return BIG(32, x); }
+INLINE u64 be64(const u8 *p) { u64 x; __builtin_memcpy(&x, p, 8); return BIG(64, x); }
+INLINE u32 le16(const u8 *p) { u16 x; __builtin_memcpy(&x, p, 2); return LITTLE(16, x); }
+INLINE u32 le32(const u8 *p) { u32 x; __builtin_memcpy(&x, p, 4); return LITTLE(32, x); }
+
+INLINE void put16(u8 *p, u32 v) { u16 x = BIG(16, (u16)v); __builtin_memcpy(p, &x, 2); }
+INLINE void put64(u8 *p, u64 v) { u64 x = BIG(64, v); __builtin_memcpy(p, &x, 8); }
+
+/* ---- CRC, four bytes a step */
+
+/* The bits of b, each with what it adds: a CRC is linear. */
+#define SUM(b, x0, x1, x2, x3, x4, x5, x6, x7) \
+    (((b) & 1 ? x0 : 0) ^ ((b) & 2 ? x1 : 0) ^ ((b) & 4 ? x2 : 0) ^ ((b) & 8 ? x3 : 0) \
+     ^ ((b) & 16 ? x4 : 0) ^ ((b) & 32 ? x5 : 0) ^ ((b) & 64 ? x6 : 0) ^ ((b) & 128 ? x7 : 0))
+#define AFTER_1(b) SUM(b, 0x1189, 0x2312, 0x4624, 0x8C48, 0x1081, 0x2102, 0x4204, 0x8408)
+#define AFTER_2(b) SUM(b, 0x19D8, 0x33B0, 0x6760, 0xCEC0, 0x9591, 0x2333, 0x4666, 0x8CCC)
+#define AFTER_3(b) SUM(b, 0x5ADC, 0xB5B8, 0x6361, 0xC6C2, 0x8595, 0x033B, 0x0676, 0x0CEC)
+#define AFTER_4(b) SUM(b, 0x1CBB, 0x3976, 0x72EC, 0xE5D8, 0xC3A1, 0x8F53, 0x16B7, 0x2D6E)
+#define OF_4(f, b) f(b), f((b) + 1), f((b) + 2), f((b) + 3)
+#define OF_16(f, b) OF_4(f, b), OF_4(f, (b) + 4), OF_4(f, (b) + 8), OF_4(f, (b) + 12)
+#define OF_64(f, b) OF_16(f, b), OF_16(f, (b) + 16), OF_16(f, (b) + 32), OF_16(f, (b) + 48)
+#define OF_256(f) OF_64(f, 0), OF_64(f, 64), OF_64(f, 128), OF_64(f, 192)
+
+/* crc_table[k][b]: the register b after k + 1 zero bytes. */
+static const u16 crc_table[4][256] = { { OF_256(AFTER_1) }, { OF_256(AFTER_2) }, { OF_256(AFTER_3) }, { OF_256(AFTER_4) } };
+
+/* The register after four more bytes. */
+INLINE u32 crc_word(u32 r, const u8 *p)
+{
+    r ^= le16(p);
+    return (u32)(crc_table[3][r & 255] ^ crc_table[2][r >> 8] ^ crc_table[1][p[2]] ^ crc_table[0][p[3]]);
+}
+
+/* And after two. */
+INLINE u32 crc_half(u32 r, const u8 *p)
+{
+    r ^= le16(p);
+    return (u32)(crc_table[1][r & 255] ^ crc_table[0][r >> 8]);
+}
+
+/* ---- the check */
+
+/* Where things are in an accepted image, and the chain of the entry asked for. */
+struct view {
+    u32 S, B, e, psi;
+    u32 entries; /* where entry 1 is */
+    u32 before;  /* where the byte before the chain table is */
+    u32 count;   /* the sectors of the chain asked for; 0 where it is not a product */
+    u32 last;    /* its last sector */
+    u32 link;    /* and that sector's element */
 };
 
-static unsigned crc16(const u8 *s, size_t n)
+/* The element of sector s: the four bytes loaded are all in the directory, since 14 or more follow the table. */
+INLINE u32 element(const u8 *before, u32 s, u32 psi)
 {
-    unsigned r = 0xFFFF;
-    for (const u8 *end = s + n; s != end; s++)
-        r = (r >> 8) ^ crc_table[(u8)(r ^ *s)];
-    return r ^ 0xFFFF;
+    u32 end = s * psi; /* the bit after it */
+    return be32(before + (end >> 3)) << (end & 7) >> 24 & ((1u << psi) - 1);
 }
 
-/* What a check finds, and of one entry its chain: no sectors where it is not a product. */
-struct shape {
-    size_t s, b, e, psi, mask, directory, table;
-    size_t last, count, mark;
-};
+INLINE u32 psi_of(u32 S) { return (31 ^ (u32)__builtin_clz(S - 1)) + 1; }
 
-static card_answer refuse(size_t number, size_t entry)
-{
-    card_answer a = { number, entry };
-    return a;
-}
+INLINE u32 empty(const u8 *entry) { return (le32(entry) | entry[4]) == 0; }
 
-/* SCT(i): two bytes that end with its last bit (two bytes before the table are always there). */
-static size_t element(const u8 *image, const struct shape *g, size_t i)
+/* Some chain is broken or shared: which. A sector met again is of the walk itself (a loop), or of a lower chain known to be sound. */
+RARE u32 explain_chains(const u8 *entry, const u8 *before, u32 S, u32 e, u32 psi)
 {
-    size_t end = g->psi * i;
-    const u8 *p = image + g->table + (end + 7) / 8;
-    return ((p[-2] << 8 | p[-1]) >> (-end & 7)) & g->mask;
-}
-
-static int bad_digits(unsigned w)
-{
-    return (w & ((w << 1) | (w << 2)) & 0x88888888u) != 0;
-}
-
-static unsigned word(const u8 *p)
-{
-    return ((unsigned)p[0] << 24) | ((unsigned)p[1] << 16) | ((unsigned)p[2] << 8) | p[3];
-}
-
-static int present(const u8 *image, const struct shape *g, size_t j)
-{
-    const u8 *p = image + g->directory + 2 + 5 * (j - 1);
-    unsigned four;
-    __builtin_memcpy(&four, p, 4);
-    return (four | p[4]) != 0;
-}
-
-/* The last sector of the chain from sector i, 0 where it is broken; its length and its mark. */
-static inline size_t walk(const u8 *image, const struct shape *g, size_t i, size_t *count, size_t *mark)
-{
-    size_t s = g->s, x, n = s - 3;
-    if (g->psi == 8) {
-        const u8 *before = image + g->table - 1;
-        while (x = before[i], x != i && x - 1 < s - 3) {
-            if (--n == 0)
-                return 0;
-            i = x;
-        }
-    } else {
-        while (x = element(image, g, i), x != i && x - 1 < s - 3) {
-            if (--n == 0)
-                return 0;
-            i = x;
+    u8 owner[256];
+    u32 shared = 0;
+    memset(owner, 0, sizeof owner);
+    for (u32 j = 1; j <= e; j++, entry += 5) {
+        if (empty(entry)) continue;
+        for (u32 s = j;;) {
+            if (owner[s] == j) return 10 | j << 8;
+            if (owner[s] != 0) {
+                if (shared == 0) shared = j;
+                break;
+            }
+            owner[s] = (u8)j;
+            u32 x = element(before, s, psi);
+            if (x == s || x == S - 2 || x == S - 1) break;
+            if (x == 0 || x > S - 1) return 10 | j << 8;
+            s = x;
         }
     }
-    if (x == 0 || x > s - 1)
-        return 0;
-    *count = s - 2 - n;
-    *mark = x == i ? 0 : s - x;
-    return i;
+    return 11 | shared << 8;
 }
 
-static card_answer check(const u8 *image, size_t length, size_t entry, struct shape *g)
+/* Walks every chain once. Sound chains have at most S-3 sectors together and end in different sectors (chains that meet stay together): a
+   count and a bit for each last sector are enough, and explain_chains names what is wrong. */
+INLINE u32 walk_chains(const u8 *image, u64 want, struct view *v, int bytes)
 {
-    if (length < 4 || ((size_t)image[0] << 8 | image[1]) != length)
-        return refuse(1, 0);
-    if (image[2] != 1)
-        return refuse(2, 0);
-    if (image[3] > 1)
-        return refuse(3, 0);
-    if (length < 36)
-        return refuse(4, 0);
+    const u8 *entry = image + v->entries, *before = image + v->before;
+    u64 ends[4] = { 0, 0, 0, 0 };
+    size_t S = v->S, left = S - 3, e = v->e, j = 1;
+    u32 psi = v->psi;
+    v->count = 0;
+    do {
+        if (empty(entry)) continue;
+        size_t s = j, x, had = left;
+        for (;; s = x) {
+            if (UNLIKELY(left-- == 0)) goto wrong;
+            x = bytes ? before[s] : element(before, (u32)s, psi);
+            if (x == s || x - 1 >= S - 3) break;
+        }
+        if (UNLIKELY(x - 1 >= S - 1)) goto wrong;
+        u64 bit = (u64)1 << (s & 63), *at = &ends[s >> 6];
+        if (UNLIKELY((*at & bit) != 0)) goto wrong;
+        *at |= bit;
+        if (j == want) {
+            v->count = (u32)(had - left);
+            v->last = (u32)s;
+            v->link = (u32)x;
+        }
+    } while (entry += 5, j++ != e);
+    return 0;
+wrong:
+    return explain_chains(image + v->entries, before, v->S, v->e, psi);
+}
+
+/* The check in stages, each ending in a call of the next, so that each has the registers to itself. 10 and 11, where Ψ is 8 and where it is less: */
+STAGE u32 check_chains_of_bytes(const u8 *image, u64 want, struct view *v) { return walk_chains(image, want, v, 1); }
+STAGE u32 check_chains(const u8 *image, u64 want, struct view *v) { return walk_chains(image, want, v, 0); }
+
+/* 7, 8, 9: one pass over the dataset, twenty bytes, padding and the last two. */
+STAGE u32 check_data(const u8 *image, u64 want, struct view *v)
+{
+    const u8 *p = image + 4, *last = p + p[0] - 4;
+    u32 r = 0xFFFF, padding = 0;
+    r = crc_word(r, p);
+    r = crc_word(r, p + 4);
+    r = crc_word(r, p + 8);
+    r = crc_word(r, p + 12);
+    r = crc_word(r, p + 16);
+    for (p += 20; p != last; p += 4) {
+        padding |= le32(p);
+        r = crc_word(r, p);
+    }
+    padding |= le16(p);
+    REFUSE((crc_half(r, p) ^ 0xFFFF) != be16(p + 2), 7);
+
+    /* IIN is bytes 2 to 4 of the shell, ISSN and CHD 7 to 10: a digit above 9 has its 8 and its 4 or 2 set */
+    u64 d = (u64)le32(image + 5) << 32 | le32(image + 11);
+    REFUSE((d & (d << 1 | d << 2) & 0x8888880088888888) != 0, 8);
+    REFUSE(padding != 0, 8);
+
+    u32 unused = -(v->S - 3) * v->psi & 7;
+    REFUSE((image[v->before + image[23]] & ((1u << unused) - 1)) != 0, 9);
+    return v->psi == 8 ? check_chains_of_bytes(image, want, v) : check_chains(image, want, v);
+}
+
+RARE u32 explain_header(const u8 *image, size_t length)
+{
+    return length < 4 || be16(image) != length ? 1 : image[2] != 1 ? 2 : image[3] > 1 ? 3 : 4;
+}
+
+/* 1 to 11 in order, as number | entry << 8; 0 if the image is accepted. */
+STAGE u32 validate(const u8 *image, size_t length, u64 want, struct view *v)
+{
+    /* length, version 1, copy 0 or 1, in one word */
+    if (UNLIKELY(length < 36) || UNLIKELY((be32(image) ^ ((u64)length << 16 | 0x100)) > 1)) return explain_header(image, length);
+
     const u8 *shell = image + 4;
-    size_t dataset = 4 * (shell[0] >> 2);
-    if ((shell[0] & 3) || (shell[1] >> 4) || dataset < 22)
-        return refuse(5, 0);
-    size_t b = shell[16], s = shell[17], e = shell[18], t = shell[19];
-    if (s < 4 || b < 32 || e < 1 || e > s - 3)
-        return refuse(6, 0);
-    size_t psi = 32 - __builtin_clz((unsigned)s - 1);
-    if (t != (psi * (s - 3) + 7) / 8 || 16 + 5 * e + t > b || dataset > b || length != 4 + s * b)
-        return refuse(6, 0);
-    if (((unsigned)shell[dataset - 2] << 8 | shell[dataset - 1]) != crc16(shell, dataset - 2))
-        return refuse(7, 0);
-    if (bad_digits(word(shell + 1) & 0xFFFFFF) || bad_digits(word(shell + 7)))
-        return refuse(8, 0);
-    for (size_t i = 20; i < dataset - 2; i++)
-        if (shell[i])
-            return refuse(8, 0);
-    g->s = s;
-    g->b = b;
-    g->e = e;
-    g->psi = psi;
-    g->mask = (1u << psi) - 1;
-    g->directory = 4 + (s - 2 + image[3]) * b;
-    g->table = g->directory + 2 + 5 * e;
-    if (image[g->table + t - 1] & ((1u << (8 * t - psi * (s - 3))) - 1))
-        return refuse(9, 0);
-    uint64_t seen[4] = { 0, 0, 0, 0 };
-    size_t shared = 0;
-    g->count = 0;
-    for (size_t j = 1; j <= e; j++) {
-        if (!present(image, g, j))
-            continue;
-        size_t count, mark, last = walk(image, g, j, &count, &mark);
-        if (last == 0)
-            return refuse(10, j);
-        if (j == entry) {
-            g->last = last;
-            g->count = count;
-            g->mark = mark;
-        }
-        if (seen[last / 64] >> last % 64 & 1 && !shared)
-            shared = j;
-        seen[last / 64] |= (uint64_t)1 << last % 64;
-    }
-    return shared ? refuse(11, shared) : refuse(0, 0);
+    REFUSE((be16(shell) & 0x3F0) != 0, 5);
+    u32 dataset = shell[0]; /* 4 x ShellLength, since the map is 0 */
+    REFUSE(dataset < 22, 5);
+
+    u32 B = shell[16], S = shell[17], e = shell[18], sctl = shell[19];
+    REFUSE(S < 4, 6);
+    REFUSE(B < 32, 6);
+    REFUSE(e - 1 >= S - 3, 6);
+    u32 psi = psi_of(S);
+    REFUSE(sctl != ((S - 3) * psi + 7) >> 3, 6);
+    REFUSE(16 + 5 * e + sctl > B, 6);
+    REFUSE(dataset > B, 6);
+    REFUSE(length != 4 + S * B, 6);
+
+    v->S = S;
+    v->B = B;
+    v->e = e;
+    v->psi = psi;
+    v->entries = 6 + (S - 2 + image[3]) * B;
+    v->before = v->entries + 5 * e - 1;
+    return check_data(image, want, v);
 }
 
-static void put(u8 *p, size_t first, size_t width, uint64_t v)
+/* ---- answers */
+
+#define TAKEN ((card_answer){ 0, 0 })
+
+/* A code is number | entry << 8 of the image's, or 20 to 28 of the entry asked for. */
+INLINE card_answer refused(u32 code, u64 entry)
 {
-    size_t a = first / 8, z = (first + width - 1) / 8, spare = 7 - (first + width - 1) % 8;
-    uint64_t x = 0, mask = ((1ull << width) - 1) << spare;
-    for (size_t k = a; k <= z; k++)
-        x = x << 8 | p[k];
-    x = (x & ~mask) | (v << spare & mask);
-    for (size_t k = z + 1; k-- > a; x >>= 8)
-        p[k] = x;
+    return (card_answer){ code & 255, code >= 20 && code <= 28 ? entry : code >> 8 };
 }
 
-static void read22(const u8 *p, uint64_t *v)
-{
-    v[0] = p[2];
-    v[1] = p[3] << 8 | p[4];
-    v[2] = p[5];
-    v[3] = p[6] >> 6;
-    v[4] = p[6] & 63;
-    v[5] = p[7] >> 6;
-    v[6] = (p[7] & 63) << 8 | p[8];
-    v[7] = p[9] >> 3;
-    v[8] = (p[9] & 7) << 8 | p[10];
-    v[9] = p[11] >> 3;
-    v[10] = p[11] & 7;
-    v[11] = p[12];
-    v[12] = p[13];
-    v[13] = p[14];
-    v[14] = p[15] >> 4;
-    v[15] = p[15] & 15;
-    v[16] = word(p + 16);
-    v[17] = p[20] >> 4;
-    v[18] = (p[20] & 15) << 8 | p[21];
-    v[19] = word(p + 22);
-    v[20] = p[26];
-    v[21] = p[27] << 8 | p[28];
-}
+INLINE u64 mark_of(const struct view *v) { return v->link == v->S - 2 ? 2 : v->link == v->S - 1 ? 1 : 0; }
 
-static void put32(u8 *p, uint64_t v)
-{
-    p[0] = v >> 24;
-    p[1] = v >> 16;
-    p[2] = v >> 8;
-    p[3] = v;
-}
-
-static void write22(u8 *p, const uint64_t *v)
-{
-    p[2] = v[0];
-    p[3] = v[1] >> 8;
-    p[4] = v[1];
-    p[5] = v[2];
-    p[6] = v[3] << 6 | v[4];
-    p[7] = v[5] << 6 | v[6] >> 8;
-    p[8] = v[6];
-    p[9] = v[7] << 3 | v[8] >> 8;
-    p[10] = v[8];
-    p[11] = v[9] << 3 | v[10];
-    p[12] = v[11];
-    p[13] = v[12];
-    p[14] = v[13];
-    p[15] = v[14] << 4 | v[15];
-    put32(p + 16, v[16]);
-    p[20] = v[17] << 4 | v[18] >> 8;
-    p[21] = v[18];
-    put32(p + 22, v[19]);
-    p[26] = v[20];
-    p[27] = v[21] >> 8;
-    p[28] = v[21];
-}
-
-static const struct { u16 first, width; } places[22] = {
-    { 16, 8 }, { 24, 16 }, { 40, 8 }, { 48, 2 }, { 50, 6 }, { 56, 2 }, { 58, 14 }, { 72, 5 }, { 77, 11 }, { 88, 5 }, { 93, 3 },
-    { 96, 8 }, { 104, 8 }, { 112, 8 }, { 120, 4 }, { 124, 4 }, { 128, 32 }, { 160, 4 }, { 164, 12 }, { 176, 32 }, { 208, 8 }, { 216, 16 },
-};
-
-static const uint64_t limits[22] = {
-    255, 65535, 255, 3, 63, 3, 16383, 31, 1439, 31, 7, 255, 255, 255, 15, 15, 0xFFFFFFFF, 15, 4095, 0xFFFFFFFF, 255, 65535,
-};
+INLINE u32 entry_at(const struct view *v, u64 entry) { return v->entries + 5 * ((u32)entry - 1); }
+INLINE u32 sector_at(const struct view *v, u32 sector) { return 4 + sector * v->B; }
 
 card_answer card_check(const u8 *image, size_t length)
 {
-    struct shape g;
-    return check(image, length, 0, &g);
+    struct view v;
+    u32 code = validate(image, length, 0, &v);
+    return (card_answer){ code & 255, code >> 8 };
+}
+
+/* 1 to 11, and 20. */
+INLINE u32 open_entry(const u8 *image, size_t length, u64 entry, struct view *v)
+{
+    u32 code = validate(image, length, entry, v);
+    return code != 0 ? code : v->count == 0 ? 20 : 0;
+}
+
+/* 22 and 23; `product` is the first sector, which holds bits 0 to 231. */
+INLINE u32 judge_kind(const u8 *image, const struct view *v, u64 entry, const u8 *product)
+{
+    if ((be16(image + entry_at(v, entry) + 1) >> 5 & 31) != 23 || (product[1] & 15) != 2) return 22;
+    u32 dataset = product[0] & 0xFC; /* 4 x IPELength */
+    if (dataset < 32 || dataset > v->count * v->B) return 23;
+    return 0;
+}
+
+/* ---- ticket read */
+
+/* n bytes, 32 to 255, by whole words: the last may overlap those before. */
+INLINE void copy_sector(u8 *to, const u8 *from, size_t n)
+{
+    size_t i = 0;
+    if (n < 64) {
+        __builtin_memcpy(to, from, 32);
+        __builtin_memcpy(to + n - 32, from + n - 32, 32);
+        return;
+    }
+    for (; i + 64 < n; i += 64) __builtin_memcpy(to + i, from + i, 64);
+    __builtin_memcpy(to + n - 64, from + n - 64, 64);
+}
+
+/* All that a read refuses; if nothing, copies the product. */
+INLINE u32 read_product(const u8 *image, size_t length, u64 entry, u8 *buffer, size_t size, struct view *v)
+{
+    u32 code = open_entry(image, length, entry, v);
+    if (code != 0) return code;
+    u32 s = (u32)entry, B = v->B, psi = v->psi, left = v->count;
+    if (size < left * B) return 21;
+    const u8 *sectors = image + 4, *before = image + v->before;
+    code = judge_kind(image, v, entry, sectors + s * B);
+    if (code != 0) return code;
+    if ((be16(sectors + s * B + 9) & 0x7FF) >= 1440) return 24;
+    for (;;) {
+        copy_sector(buffer, sectors + s * B, B);
+        if (--left == 0) return 0;
+        buffer += B;
+        s = psi == 8 ? before[s] : element(before, s, psi);
+    }
+}
+
+/* The twenty-two, from bit 16 of the product. */
+INLINE void decode_record(const u8 in[27], u64 value[22])
+{
+    value[0] = in[0];
+    value[1] = be16(in + 1);
+    value[2] = in[3];
+    value[3] = in[4] >> 6;
+    value[4] = in[4] & 63;
+    value[5] = in[5] >> 6;
+    value[6] = be32(in + 3) & 0x3FFF;
+    value[7] = in[7] >> 3;
+    value[8] = be32(in + 5) & 0x7FF;
+    value[9] = in[9] >> 3;
+    value[10] = in[9] & 7;
+    value[11] = in[10];
+    value[12] = in[11];
+    value[13] = in[12];
+    value[14] = in[13] >> 4;
+    value[15] = in[13] & 15;
+    value[16] = be32(in + 14);
+    value[17] = in[18] >> 4;
+    value[18] = be32(in + 16) & 0xFFF;
+    value[19] = be32(in + 20);
+    value[20] = in[24];
+    value[21] = be16(in + 25);
 }
 
 card_ticket card_read_ticket(const u8 *image, size_t length, size_t entry, u8 *buffer, size_t size)
 {
-    card_ticket r;
-    memset(&r, 0, sizeof r);
-    struct shape g;
-    card_answer a = check(image, length, entry, &g);
-    if (a.number) {
-        r.number = a.number;
-        r.entry = a.entry;
-        return r;
+    struct view v;
+    card_ticket t;
+    u32 code = read_product(image, length, entry, buffer, size, &v);
+    if (code != 0) {
+        memset(&t, 0, sizeof t);
+        card_answer a = refused(code, entry);
+        t.number = a.number;
+        t.entry = a.entry;
+        return t;
     }
-    size_t count = g.count, n = 0;
-    if (count == 0)
-        n = 20;
-    else {
-        const u8 *first = image + 4 + entry * g.b, *p = image + g.directory + 2 + 5 * (entry - 1);
-        size_t end = 4 * (first[0] >> 2);
-        if (size < count * g.b)
-            n = 21;
-        else if ((((size_t)p[1] & 3) << 3 | p[2] >> 5) != 23 || (first[1] & 15) != 2)
-            n = 22;
-        else if (end < 32 || end > count * g.b)
-            n = 23;
-        else if (((first[9] & 7) << 8 | first[10]) >= 1440)
-            n = 24;
-        else {
-            r.header[0] = first[0] >> 2;
-            r.header[1] = (first[0] & 3) << 4 | first[1] >> 4;
-            r.header[2] = first[1] & 15;
-            read22(first, r.values);
-            size_t day = ((size_t)p[3] & 63) << 8 | p[4];
-            r.end = (day ? day : 16384) * 1440 + r.values[8];
-            r.mark = g.mark;
-            r.sectors = count;
-            size_t i = entry;
-            for (size_t k = 0; k < count; k++) {
-                memcpy(buffer + k * g.b, image + 4 + i * g.b, g.b);
-                i = element(image, &g, i);
-            }
-        }
-    }
-    if (n) {
-        r.number = n;
-        r.entry = entry;
-    }
-    return r;
+    t.number = 0;
+    t.entry = 0;
+    t.header[0] = buffer[0] >> 2;
+    t.header[1] = be16(buffer) >> 4 & 63;
+    t.header[2] = buffer[1] & 15;
+    decode_record(buffer + 2, t.values);
+    u32 stamp = be16(image + entry_at(&v, entry) + 3) & 0x3FFF;
+    t.end = (stamp != 0 ? stamp : 16384) * 1440 + t.values[8];
+    t.mark = mark_of(&v);
+    t.sectors = v.count;
+    return t;
 }
 
-/* 20, 27, 22, 23 of a write; where the ticket starts. */
-static size_t writable(const u8 *image, const struct shape *g, size_t entry)
+/* ---- steps */
+
+/* A field in a word of eight bytes of the product, none of them past byte 28. */
+struct field {
+    u64 keep; /* the word's other bits */
+    u32 most;
+    u8 at, shift;
+};
+
+#define WINDOW(first) ((first) / 8 < 21 ? (first) / 8 : 21)
+#define SHIFT(first, width) (64 + 8 * WINDOW(first) - (first) - (width))
+#define FIELD_TO(first, width, most) { ~((((u64)1 << (width)) - 1) << SHIFT(first, width)), (most), WINDOW(first), SHIFT(first, width) }
+#define FIELD(first, width) FIELD_TO(first, width, (u32)(((u64)1 << (width)) - 1))
+
+static const struct field fields[22] = {
+    FIELD(16, 8),   FIELD(24, 16),  FIELD(40, 8),   FIELD(48, 2),  FIELD(50, 6),   FIELD(56, 2),
+    FIELD(58, 14),  FIELD(72, 5),   FIELD_TO(77, 11, 1439),        FIELD(88, 5),   FIELD(93, 3),
+    FIELD(96, 8),   FIELD(104, 8),  FIELD(112, 8),  FIELD(120, 4), FIELD(124, 4),  FIELD(128, 32),
+    FIELD(160, 4),  FIELD(164, 12), FIELD(176, 32), FIELD(208, 8), FIELD(216, 16),
+};
+
+/* The bits that must be zero in each of the twenty-two. */
+static const u64 too_wide[22] = {
+    ~0xFFull, ~0xFFFFull, ~0xFFull, ~3ull, ~63ull, ~3ull, ~0x3FFFull, ~31ull, ~0x7FFull, ~31ull, ~7ull, ~0xFFull, ~0xFFull,
+    ~0xFFull, ~15ull, ~15ull, ~0xFFFFFFFFull, ~15ull, ~0xFFFull, ~0xFFFFFFFFull, ~0xFFull, ~0xFFFFull,
+};
+
+INLINE u32 bad_record(const u64 value[22])
 {
-    if (g->count == 0)
-        return 20;
-    if (g->mark == 2)
-        return 27;
-    const u8 *first = image + 4 + entry * g->b, *p = image + g->directory + 2 + 5 * (entry - 1);
-    size_t end = 4 * (first[0] >> 2);
-    if ((((size_t)p[1] & 3) << 3 | p[2] >> 5) != 23 || (first[1] & 15) != 2)
-        return 22;
-    if (end < 32 || end > g->count * g->b)
-        return 23;
-    return 0;
+    u64 over = 0;
+    for (u32 i = 0; i < 22; i++) over |= value[i] & too_wide[i];
+    return over != 0 || value[8] >= 1440;
 }
 
-card_answer card_write_field(u8 *image, size_t length, size_t entry, size_t field, uint64_t value)
+/* Bits 16 to 231, by four words of which each mends the one before. */
+INLINE void encode_record(const u64 v[22], u8 out[27])
 {
-    struct shape g;
-    card_answer a = check(image, length, entry, &g);
-    if (a.number)
-        return a;
-    size_t n = writable(image, &g, entry);
-    if (!n && (field < 1 || field > 22))
-        n = 25;
-    if (!n && value > limits[field - 1])
-        n = 26;
-    if (n)
-        return refuse(n, entry);
-    put(image + 4 + entry * g.b, places[field - 1].first, places[field - 1].width, value);
-    return a;
+    u64 a = v[0] << 56 | v[1] << 40 | v[2] << 32 | v[3] << 30 | v[4] << 24 | v[5] << 22 | v[6] << 8;
+    u64 b = v[7] << 59 | v[8] << 48 | v[9] << 43 | v[10] << 40 | v[11] << 32 | v[12] << 24 | v[13] << 16 | v[14] << 12 | v[15] << 8;
+    u64 c = v[16] << 32 | v[17] << 28 | v[18] << 16;
+    u64 d = v[18] << 56 | v[19] << 24 | v[20] << 16 | v[21];
+    put64(out, a);
+    put64(out + 7, b);
+    put64(out + 14, c);
+    put64(out + 19, d);
 }
 
-card_answer card_write_record(u8 *image, size_t length, size_t entry, const uint64_t values[22])
+/* What field and record writes refuse alike: 1 to 11, 20, 27, 22, 23. */
+INLINE u32 open_write(const u8 *image, size_t length, u64 entry, struct view *v)
 {
-    struct shape g;
-    card_answer a = check(image, length, entry, &g);
-    if (a.number)
-        return a;
-    size_t n = writable(image, &g, entry);
-    for (size_t i = 0; !n && i < 22; i++)
-        if (values[i] > limits[i])
-            n = 26;
-    if (n)
-        return refuse(n, entry);
-    write22(image + 4 + entry * g.b, values);
-    return a;
+    u32 code = open_entry(image, length, entry, v);
+    if (code != 0) return code;
+    if (v->link == v->S - 2) return 27;
+    return judge_kind(image, v, entry, image + sector_at(v, (u32)entry));
+}
+
+card_answer card_write_field(u8 *image, size_t length, size_t entry, size_t field, u64 value)
+{
+    struct view v;
+    u32 code = open_write(image, length, entry, &v);
+    if (code != 0) return refused(code, entry);
+    if (field - 1 >= 22) return refused(25, entry);
+    const struct field *f = &fields[field - 1];
+    if (value > f->most) return refused(26, entry);
+    u8 *p = image + sector_at(&v, (u32)entry) + f->at;
+    put64(p, (be64(p) & f->keep) | value << f->shift);
+    return TAKEN;
+}
+
+card_answer card_write_record(u8 *image, size_t length, size_t entry, const u64 value[22])
+{
+    struct view v;
+    u32 code = open_write(image, length, entry, &v);
+    if (code != 0) return refused(code, entry);
+    if (bad_record(value)) return refused(26, entry);
+    encode_record(value, image + sector_at(&v, (u32)entry) + 2);
+    return TAKEN;
 }
 
 card_answer card_mark(u8 *image, size_t length, size_t entry, size_t mark)
 {
-    struct shape g;
-    card_answer a = check(image, length, entry, &g);
-    if (a.number)
-        return a;
-    if (g.count == 0)
-        return refuse(20, entry);
-    if (mark != 1 && mark != 2)
-        return refuse(28, entry);
-    if (g.mark > mark)
-        return refuse(27, entry);
-    put(image + g.table, g.psi * (g.last - 1), g.psi, g.s - mark);
-    return a;
+    struct view v;
+    u32 code = open_entry(image, length, entry, &v);
+    if (code != 0) return refused(code, entry);
+    if (mark - 1 >= 2) return refused(28, entry);
+    u32 link = v.S - (u32)mark; /* S-1 used, S-2 blocked */
+    if (v.link == link) return TAKEN;
+    if (v.link == v.S - 2) return refused(27, entry);
+    u32 end = v.last * v.psi, shift = 8 - (end & 7);
+    u8 *p = image + v.before + (end >> 3);
+    put16(p, (be16(p) & ~(((1u << v.psi) - 1) << shift)) | link << shift);
+    return TAKEN;
+}
+
+/* ---- which entries differ */
+
+/* Whether the chains from sector s on are the same in both: their elements, and the bytes of their sectors. */
+INLINE u32 same_chain(const u8 *before, const u8 *after, const struct view *v, u32 s)
+{
+    for (;;) {
+        if (memcmp(before + sector_at(v, s), after + sector_at(v, s), v->B) != 0) return 0;
+        u32 x = element(before + v->before, s, v->psi);
+        if (x != element(after + v->before, s, v->psi)) return 0;
+        if (x == s || x > v->S - 3) return 1;
+        s = x;
+    }
+}
+
+card_answer card_touched(const u8 *before, size_t before_length, const u8 *after, size_t after_length, u8 *flags, size_t count)
+{
+    struct view v, w;
+    u32 code = validate(before, before_length, 0, &v);
+    if (code == 0) code = validate(after, after_length, 0, &w);
+    if (code != 0) return refused(code, 0);
+    if (v.S != w.S || v.B != w.B || v.e != w.e || before[3] != after[3]) return (card_answer){ 90, 0 };
+    if (count != v.e) return (card_answer){ 91, 0 };
+    for (u32 j = 1; j <= v.e; j++) {
+        const u8 *a = before + entry_at(&v, j), *b = after + entry_at(&v, j);
+        u32 same = le32(a) == le32(b) && a[4] == b[4];
+        flags[j - 1] = !(same && (empty(a) || same_chain(before, after, &v, j)));
+    }
+    return TAKEN;
 }

@@ -1,97 +1,268 @@
-/* One call on one card, ROUNDS times over. CALL is 1 check, 2 ticket read, 3 field write, 4 record write, 5 mark; CARD is 1 small, 2 middle,
-   3 large. It prints a sum of the answers, so that two programs can be seen to do the same work. */
-#include "../include/card.h"
+/* What bench/run measures. Each call that is counted stands between count_begin and count_end; each row prints its name, its number of counted
+   calls and a sum of the answers and of the bytes they left, so that two programs can be seen to do the same work.
+     driver table        each call on the small, the middle and the large card; the worst cards; two equal large cards compared
+     driver growth       pairs of calls, and by how much the second has more of something
+     driver nasty        a check of each nasty card
+     driver same FROM N  every call on N cards damaged at random, uncounted */
+#include "cards.h"
 
-extern long write(int, const void *, unsigned long);
+extern int printf(const char *, ...), sprintf(char *, const char *, ...), atoi(const char *), strcmp(const char *, const char *);
+extern void *memcpy(void *, const void *, size_t);
 
-static uint8_t image[65536], buffer[65536];
-static size_t length;
+__attribute__((noinline)) void count_begin(void) { __asm__ volatile("" ::: "memory"); }
+__attribute__((noinline)) void count_end(void) { __asm__ volatile("" ::: "memory"); }
+#define COUNTED(call) (count_begin(), (call), count_end())
 
-static unsigned crc(const uint8_t *s, size_t n)
+static uint8_t saved[65536], buffer[65536], flags[256];
+static uint64_t sum;
+
+static void add(uint64_t x) { sum = sum * 6364136223846793005u + x + 1; }
+
+static void add_bytes(const uint8_t *p, size_t n)
 {
-    unsigned r = 0xFFFF;
-    for (size_t i = 0; i < n; i++) {
-        r ^= s[i];
-        for (int k = 0; k < 8; k++)
-            r = r & 1 ? r >> 1 ^ 0x8408 : r >> 1;
-    }
-    return r ^ 0xFFFF;
+    for (size_t i = 0; i < n; i++)
+        add(p[i]);
 }
 
-static size_t psi;
-
-static void element(size_t table, size_t i, size_t x)
+static void add_ticket(const card_ticket *t)
 {
-    for (size_t k = 0; k < psi; k++) {
-        size_t bit = psi * (i - 1) + k;
-        if (x >> (psi - 1 - k) & 1)
-            image[table + bit / 8] |= 0x80 >> bit % 8;
+    add(t->number), add(t->entry), add(t->end), add(t->mark), add(t->sectors);
+    for (size_t i = 0; i < 3; i++)
+        add(t->header[i]);
+    for (size_t i = 0; i < 22; i++)
+        add(t->values[i]);
+}
+
+static uint64_t state = 1;
+
+/* A number below n. */
+static size_t any(size_t n)
+{
+    state = state * 6364136223846793005u + 1442695040888963407u;
+    return (state >> 33) % n;
+}
+
+static const uint64_t limits[22] = {
+    255, 65535, 255, 3, 63, 3, 16383, 31, 1439, 31, 7, 255, 255, 255, 15, 15, 0xFFFFFFFF, 15, 4095, 0xFFFFFFFF, 255, 65535,
+};
+
+static void row(const char *name, const char *card, size_t calls)
+{
+    add_bytes(image, length);
+    add_bytes(buffer, sizeof buffer);
+    printf("%s\t%s\t%lu\t%lx\n", name, card, calls, sum);
+    sum = 0;
+}
+
+/* Every entry and every field have their turn. */
+enum { ROUNDS = 88 };
+
+/* Two cards, as S, e#, products, sectors of the first product and the dataset's bytes, with `more` of something in the second; the call is c check,
+   t ticket read, d touched. */
+static const struct { const char *what; char call; size_t cards[2][5], more; } growths[] = {
+    { "check: an element where psi is less than 8", 'c', { { 64, 1, 1, 11, 24 }, { 64, 1, 1, 61, 24 } }, 50 },
+    { "check: an element where psi is 8", 'c', { { 237, 1, 1, 11, 24 }, { 237, 1, 1, 211, 24 } }, 200 },
+    { "check: a product of one sector", 'c', { { 64, 1, 1, 1, 24 }, { 64, 31, 31, 1, 24 } }, 30 },
+    { "check: an empty entry", 'c', { { 64, 1, 1, 1, 24 }, { 64, 31, 1, 1, 24 } }, 30 },
+    { "check: a byte of the shell's dataset", 'c', { { 64, 1, 1, 1, 24 }, { 64, 1, 1, 1, 252 } }, 228 },
+    { "ticket read: a sector of 255 bytes", 't', { { 237, 1, 1, 11, 24 }, { 237, 1, 1, 211, 24 } }, 200 },
+    { "touched: a sector of 255 bytes, the same in both", 'd', { { 237, 1, 1, 11, 24 }, { 237, 1, 1, 211, 24 } }, 200 },
+};
+
+static void damage(void)
+{
+    for (size_t n = any(4); n-- > 0;) {
+        size_t what = any(11);
+        if (what < 5)
+            element(1 + any(sectors - 3), any(3) ? any(1 << psi) : sectors - 1 - any(2));
+        if (what == 5)
+            image[any(28)] ^= 1 << any(8);
+        if (what == 6)
+            image[directory + any(size)] = any(256);
+        if (what == 7)
+            image[4 + (1 + any(entries)) * size + any(30)] = any(256);
+        if (what == 8)
+            for (size_t j = 1 + any(entries), i = 0; i < 5; i++)
+                image[directory + 2 + 5 * (j - 1) + i] = 0;
+        if (what == 9)
+            image[table + any(table_size)] = any(256);
+        if (what == 10) { /* ExpiryTime 1,439 or 1,440 */
+            uint8_t *p = image + 4 + (1 + any(entries)) * size;
+            p[9] = 5;
+            p[10] = 0x9F + any(2);
+        }
+    }
+    size_t dataset = image[4] & 0xFC;
+    if (any(4) && dataset >= 4) {
+        unsigned right = crc(image + 4, dataset - 2);
+        image[4 + dataset - 2] = right >> 8;
+        image[4 + dataset - 1] = right & 255;
     }
 }
 
-/* S sectors of B bytes, e entries; chain j has sizes[j - 1] sectors, taken in turn from those above e. */
-static void card(size_t s, size_t b, size_t e, const size_t *sizes)
+static void any_card(void)
 {
-    length = 4 + s * b;
-    for (psi = 0; (size_t)1 << psi < s; psi++) {}
-    size_t t = (psi * (s - 3) + 7) / 8;
-    uint8_t head[24] = { length >> 8, length & 255, 1, 0, 24, 1, 0x63, 0x35, 0x97, 0x12, 0x34, 0x12, 0x34, 0x56, 0x78, 1, 1, 1, 0, 100, b, s, e, t };
-    for (size_t i = 0; i < 24; i++)
-        image[i] = head[i];
-    unsigned sum = crc(image + 4, 22);
-    image[26] = sum >> 8;
-    image[27] = sum & 255;
-    size_t directory = 4 + (s - 2) * b, table = directory + 2 + 5 * e, free = e + 1;
-    for (size_t j = 1; j <= e; j++) {
-        uint8_t entry[5] = { 0, 6, 0xE1, 0, j };
-        for (size_t i = 0; i < 5; i++)
-            image[directory + 2 + 5 * (j - 1) + i] = entry[i];
-        image[4 + j * b] = 8 << 2;
-        image[4 + j * b + 1] = 2;
-        size_t at = j;
-        for (size_t k = 1; k < sizes[j - 1]; k++) {
-            element(table, at, free);
-            at = free++;
-        }
-        element(table, at, s - 1);
+    size_t s = 4 + any(234), what = any(10), e;
+    if (what == 0)
+        smallest_card();
+    else if (what < 3)
+        small_card();
+    else if (what == 3)
+        middle_card();
+    else if (what == 4)
+        full_card();
+    else if (what == 5)
+        nasty_card(s, any(SHAPES), any(TAILS));
+    else {
+        s = 4 + any(60);
+        e = 1 + any(most_entries(s));
+        size_t least = 16 + 5 * e + table_size_of(s), b = least + any(256 - least);
+        blank(s, b < 36 ? 36 : b, e, any(2) ? 24 : 36);
+        size_t counts[256], left = s - 3 - e;
+        for (size_t j = 0; j < e; j++)
+            left -= (counts[j] = 1 + any(left + 1 < 6 ? left + 1 : 6)) - 1;
+        chains(counts);
     }
+    if (any(3) == 0) { /* copy B */
+        image[3] = 1;
+        memcpy(image + directory + size, image + directory, size);
+        directory += size;
+        table += size;
+    }
+    damage();
 }
 
-int main(void)
+int main(int argc, char **argv)
 {
-    static const size_t small[] = { 2, 1 }, middle[] = { 3, 4, 5, 6, 3, 4, 5, 6 }, large[] = { 234 };
-    if (CARD == 1)
-        card(16, 64, 2, small);
-    if (CARD == 2)
-        card(64, 128, 8, middle);
-    if (CARD == 3)
-        card(237, 255, 1, large);
-    size_t sum = 0;
-    uint64_t values[22] = { 1, 2, 3, 1, 5, 1, 7, 8, 900, 10, 3, 12, 13, 14, 15, 2, 1700, 3, 2000, 20, 21, 22 };
-    for (size_t round = 0; round < ROUNDS; round++) {
-        card_answer a = { 0, 0 };
-        if (CALL == 1)
-            a = card_check(image, length);
-        if (CALL == 2) {
-            card_ticket t = card_read_ticket(image, length, 1, buffer, sizeof buffer);
-            a.number = t.number + t.values[16] + t.end + t.sectors;
+    static const char *const names[] = { "small", "middle", "large" };
+    static void (*const make[])(void) = { small_card, middle_card, large_card };
+    static const char *const shapes[] = SHAPE_NAMES, *const tails[] = TAIL_NAMES;
+    const char *work = argc > 1 ? argv[1] : "";
+    card_answer a;
+    card_ticket t;
+    uint64_t values[22];
+
+    if (!strcmp(work, "table")) {
+        for (size_t c = 0; c < 3; c++) {
+            make[c]();
+            memcpy(saved, image, length);
+            for (size_t r = 0; r < ROUNDS; r++) {
+                COUNTED(a = card_check(image, length));
+                add(a.number), add(a.entry);
+            }
+            row("check", names[c], ROUNDS);
+            for (size_t r = 0; r < ROUNDS; r++) {
+                COUNTED(t = card_read_ticket(image, length, 1 + r % entries, buffer, sizeof buffer));
+                add_ticket(&t);
+            }
+            row("ticket read", names[c], ROUNDS);
+            for (size_t r = 0; r < ROUNDS; r++) {
+                uint64_t value = any(limits[r % 22] + 1);
+                COUNTED(a = card_write_field(image, length, 1 + r % entries, 1 + r % 22, value));
+                add(a.number), add(a.entry);
+            }
+            row("field write", names[c], ROUNDS);
+            for (size_t r = 0; r < ROUNDS; r++) {
+                for (size_t i = 0; i < 22; i++)
+                    values[i] = any(limits[i] + 1);
+                COUNTED(a = card_write_record(image, length, 1 + r % entries, values));
+                add(a.number), add(a.entry);
+            }
+            row("record write", names[c], ROUNDS);
+            for (size_t r = 0; r < ROUNDS; r++) {
+                COUNTED(a = card_mark(image, length, 1 + r % entries, 1));
+                add(a.number), add(a.entry);
+            }
+            row("mark", names[c], ROUNDS);
+            for (size_t r = 0; r < ROUNDS; r++) {
+                memcpy(image, saved, length);
+                COUNTED(a = card_mark(image, length, 1 + r % entries, 2));
+                add(a.number), add(a.entry);
+            }
+            row("mark, stored", names[c], ROUNDS);
         }
-        if (CALL == 3)
-            a = card_write_field(image, length, 1, 17, round);
-        if (CALL == 4) {
-            values[16] = round;
-            a = card_write_record(image, length, 1, values);
+        for (size_t c = 0; c < 4; c++) {
+            static const char *const worst[] = { "all share", "all share but the last, in a loop", "all share", "all sectors in chains" };
+            char name[100];
+            c == 0 ? shared_card(127, 26) : c == 1 ? looped_card(127, 26) : c == 2 ? shared_card(44, 41) : full_card();
+            COUNTED(a = card_check(image, length));
+            sprintf(name, "S %lu, e# %lu, %s: %lu at %lu", sectors, entries, worst[c], a.number, a.entry);
+            row("check", name, 1);
         }
-        if (CALL == 5)
-            a = card_mark(image, length, 1, 1);
-        sum = sum * 31 + a.number + a.entry + 1;
-        image[4 + 24] = round;
+        large_card();
+        memcpy(saved, image, length);
+        COUNTED(a = card_touched(saved, length, image, length, flags, 1));
+        add(a.number), add(a.entry), add(flags[0]);
+        row("touched", "two equal large cards", 1);
     }
-    char out[21];
-    size_t n = 20;
-    out[20] = '\n';
-    for (sum += image[4 + 16]; sum; sum /= 10)
-        out[--n] = '0' + sum % 10;
-    write(1, out + n, 21 - n);
+    if (!strcmp(work, "growth"))
+        for (size_t g = 0; g < sizeof growths / sizeof *growths; g++) {
+            for (size_t i = 0; i < 2; i++) {
+                const size_t *c = growths[g].cards[i];
+                blank(c[0], 255, c[1], c[4]);
+                for (size_t j = 1; j <= c[2]; j++) {
+                    ticket(j);
+                    element(j, sectors - 1);
+                }
+                if (c[3] > 1) {
+                    line(c[1] + 1, c[1] + c[3] - 1);
+                    element(1, c[1] + 1);
+                }
+                memcpy(saved, image, length);
+                if (growths[g].call == 'c')
+                    COUNTED(a = card_check(image, length));
+                if (growths[g].call == 't')
+                    COUNTED(t = card_read_ticket(image, length, 1, buffer, sizeof buffer));
+                if (growths[g].call == 'd')
+                    COUNTED(a = card_touched(saved, length, image, length, flags, entries));
+                add(growths[g].call == 't' ? t.number : a.number);
+            }
+            row("growth", growths[g].what, growths[g].more);
+        }
+    if (!strcmp(work, "nasty"))
+        for (size_t s = 4; s <= 237; s++)
+            for (size_t shape = 0; shape < SHAPES; shape++)
+                for (size_t tail = 0; tail < TAILS; tail++) {
+                    nasty_card(s, shape, tail);
+                    COUNTED(a = card_check(image, length));
+                    printf("S %lu, e# %lu, %s, %s: %lu at %lu\n", s, entries, shapes[shape], tails[tail], a.number, a.entry);
+                }
+    if (!strcmp(work, "same"))
+        for (size_t from = atoi(argv[2]), n = from; n < from + atoi(argv[3]); n++) {
+            state = n;
+            any_card();
+            memcpy(saved, image, length);
+            if (any(30) == 0) { /* an image that ends early, and says so */
+                length = any(80);
+                image[0] = 0;
+                image[1] = length;
+            }
+            size_t e = any(8) ? 1 + any(entries) : any(300), given = any(20) ? length : any(200), room = any(4) ? sizeof buffer : any(300);
+            size_t numbers[6], field = any(24);
+            a = card_check(image, given);
+            add(numbers[0] = a.number), add(a.entry);
+            t = card_read_ticket(image, given, e, buffer, room);
+            numbers[1] = t.number;
+            add_ticket(&t);
+            add_bytes(buffer, 600);
+            a = card_write_field(image, given, e, field, field - 1 < 22 && any(4) ? limits[field - 1] + any(2) : any(1 << 30));
+            add(numbers[2] = a.number), add(a.entry);
+            for (size_t i = 0; i < 22; i++)
+                values[i] = any(10) ? any(limits[i] + 1) : limits[i] + (any(10) == 0);
+            a = card_write_record(image, given, e, values);
+            add(numbers[3] = a.number), add(a.entry);
+            a = card_mark(image, given, e, any(4));
+            add(numbers[4] = a.number), add(a.entry);
+            add_bytes(image, length);
+            if (any(2))
+                damage();
+            a = card_touched(saved, given, image, length, flags, any(8) ? entries : any(256));
+            add(numbers[5] = a.number), add(a.entry);
+            add_bytes(flags, sizeof flags);
+            printf("%lu", n);
+            for (size_t i = 0; i < 6; i++)
+                printf(" %lu", numbers[i]);
+            printf(" %lx\n", sum);
+        }
     return 0;
 }

@@ -7,11 +7,11 @@ pub use image::Shape;
 pub use verdict::check;
 
 // Reading a card.
+pub use readcard::read_chain;
 pub use readcard::read_directory;
+pub use readcard::read_entry;
 pub use readcard::read_shell;
 pub use readcard::read_table;
-pub use readentry::read_chain;
-pub use readentry::read_entry;
 pub use reads::ChainRead;
 pub use reads::DirectoryRead;
 pub use reads::EntryRead;
@@ -56,10 +56,10 @@ pub use ticket::Header;
 pub use ticket::HeaderBytes;
 pub use ticket::Record;
 pub use ticket::Value;
-pub use ticketbytes::decode as decode_ticket;
-pub use ticketbytes::decode_header;
-pub use ticketbytes::encode as encode_ticket;
-pub use ticketbytes::encode_header;
+pub use ticket::decode as decode_ticket;
+pub use ticket::decode_header;
+pub use ticket::encode as encode_ticket;
+pub use ticket::encode_header;
 
 // Dates.
 pub use dates::Date;

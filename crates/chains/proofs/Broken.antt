@@ -1,85 +1,99 @@
--- A chain is broken, that is, there is none, exactly where the elements lead to 0, to a number above S - 1, or back to a sector passed before.
--- Assumes nothing.
-use mathlib.Core.Path.{_≡_, refl, sym, subst}
-use mathlib.Core.Logic.{_≢_, _↔_, _⊎_, inl, inr, ⊎-elim}
+-- The walk is broken exactly where the elements break it: what it says of the first bad element is so, and there is no chain. It passes no sector
+-- twice, so that it does not run out of the S - 3 sectors allowed. Assumes nothing.
+use mathlib.Core.Path.{_≡_, refl}
+use mathlib.Core.Logic.{_↔_, inl, inr, ⊎-elim}
 use mathlib.Core.List.{List, [], _∷_}
-use Prim.Native.Nat.{ℕ, zero, suc, _+_, _-_, _<_}
+use mathlib.Core.Bool.{Bool, true, false}
+use Prim.Native.Nat.{ℕ, zero, suc, _+_, _-_, _≤_}
 use native.Mathlib.Omega.{arith}
-use native.Mathlib.Decide.{ℕ-discrete, decLt}
 use lib.ListN.{length}
-use Rattle.chains.specs.Chain.{Sector, Ends, fresh, used, blocked, Names, Leads, last, next, In, Distinct, NoChain, Link}
-use Rattle.chains.specs.Chain.{Breaks, zero-met, above-met, comes-back, goes-on}
-use Rattle.chains.proofs.Laws.{View, v-end, v-to, v-bad, view, ends-or-names, leads-distinct, rest, in-or-not}
+use Rattle.chains.specs.Chain.{Sector, Names, In, Distinct, NoChain, Fault, is-zero, is-above, is-passed, Bad, zero-met, above-met, comes-back, Break, breakAt, Breaks, here, onward}
+use Rattle.chains.specs.Chain.{Link, to, bad, pick, link, member, past, Walk, found, broken, after, onLink, walkOn, walk}
+use Rattle.chains.specs.Marks.{replaced}
+use Rattle.chains.proofs.Members.{member-in, in-member, not-member, member-not}
+use Rattle.chains.proofs.Laws.{View, v-end, v-to, v-bad, view, view-to, view-bad, broken-none}
 use Rattle.chains.proofs.Distinct.{few}
 
+-- i and the sectors ps passed before it are sectors, each once
+record Passed (S : ℕ) (ps : List ℕ) (i : ℕ) : Type 0 where
+  once : Distinct (i ∷ ps)
+  sectors : (x : ℕ) → In x (i ∷ ps) → Sector S x
+
+passed-few : {S i : ℕ} {ps : List ℕ} → Passed S ps i → length (i ∷ ps) ≤ S - 3
+passed-few {S} {i} {ps} p = few (S - 3) (i ∷ ps) (p .once) (λ x h. let s = p .sectors x h in (s .low, s .high))
+
 module _ (f : ℕ → ℕ) (S : ℕ) where
-  -- whoever passes a sector of ps comes to i
-  Before : List ℕ → ℕ → Type 0
-  Before ps i = (p : ℕ) → In p ps → (ts : List ℕ) (n : ℕ) → Leads f S p ts n → In i ts
-
-  leads-second : {i m : ℕ} {ss : List ℕ} → Sector S i → Names S i (f i) → Leads f S i ss m → In (f i) ss
-  leads-second s a (last e) = absurd (ends-or-names s e a)
-  leads-second s a (next _ (last e)) = inr (inl refl)
-  leads-second s a (next _ (next b p)) = inr (inl refl)
-
-  no-lead : {ps : List ℕ} {i m : ℕ} {ss : List ℕ} → Sector S i → Before ps i → Breaks f S ps i → Leads f S i ss m → ⊥
-  unfolding Before
-  no-lead s b (zero-met e) (last (fresh p)) = omega arith
-  no-lead s b (zero-met e) (last (used p)) = omega arith
-  no-lead s b (zero-met e) (last (blocked p)) = omega arith
-  no-lead s b (zero-met e) (next a p) = omega arith
-  no-lead s b (above-met e) (last (fresh p)) = omega arith
-  no-lead s b (above-met e) (last (used p)) = omega arith
-  no-lead s b (above-met e) (last (blocked p)) = omega arith
-  no-lead s b (above-met e) (next a p) = omega arith
-  no-lead s b (comes-back a h) (last e) = ends-or-names s e a
-  no-lead {i = i} {m = m} s b (comes-back a h) (next {ss = ss} c p) = leads-distinct f S s (next c p) .0 (b (f i) h ss m p)
-  no-lead s b (goes-on a r) (last e) = ends-or-names s e a
-  no-lead {ps} {i} s b (goes-on a r) (next c p) = no-lead (a .sector) b′ r p
+  passed-on : {ps : List ℕ} {i : ℕ} → Passed S ps i → Names S i (f i) → (In (f i) ps → ⊥) → Passed S (i ∷ ps) (f i)
+  passed-on {ps} {i} p a h = record { once = (⊎-elim (a .other) h, p .once); sectors = sectors }
     where
-      b′ : (q : ℕ) → (q ≡ i) ⊎ In q ps → (ts : List ℕ) (n : ℕ) → Leads f S q ts n → In (f i) ts
-      b′ q (inl e) ts n l = leads-second s a (subst (λ (k : ℕ). Leads f S k ts n) e l)
-      b′ q (inr h) ts n l = let t = rest f S l i (b q h ts n l) in t .inside (f i) (leads-second s a (t .leads))
+      sectors : (x : ℕ) → In x (f i ∷ (i ∷ ps)) → Sector S x
+      sectors x (inl e) = rw e (a .sector)
+      sectors x (inr q) = p .sectors x q
 
-  bad-breaks : {ps : List ℕ} {i : ℕ} → ((m : ℕ) → Ends S i (f i) m → ⊥) → (Names S i (f i) → ⊥) → Breaks f S ps i
-  bad-breaks {i = i} no-e no-n = go (ℕ-discrete (f i) 0) (decLt (S - 1) (f i))
+  -- an element that is one of the sectors passed names it
+  passed-names : {ps : List ℕ} {i : ℕ} → Passed S ps i → In (f i) ps → Names S i (f i)
+  passed-names {ps} {i} p h = record { other = λ e. p .once .0 (rw e at h); sector = p .sectors (f i) (inr h) }
+
+  -- what the walk says of the first bad element is so
+  broken-so : (n : ℕ) (ps : List ℕ) (i : ℕ) (b : Break) → Passed S ps i → length ps + n ≡ S - 3 → walkOn f S ps i n ≡ broken b → Breaks f S ps i b
+  unfolding walkOn
+  broken-so zero ps i b p l e = absurd (omega (arith, passed-few p))
+  broken-so (suc n) ps i b p l e = go (view S i (f i)) (broken-so n (i ∷ ps) (f i) b) e
     where
-      go : {ps : List ℕ} → Dec (f i ≡ 0) → Dec (S - 1 < f i) → Breaks f S ps i
-      go (yes e) d = zero-met e
-      go (no e) (yes d) = above-met d
-      go (no e) (no d) =
-          let x : f i ≢ S - 1 = λ q. no-e 1 (used q) in
-          let y : f i ≢ S - 2 = λ q. no-e 2 (blocked q) in
-          absurd (no-n (record { other = λ q. no-e 0 (fresh q); sector = record { low = omega arith; high = omega arith } }))
+      bad-here : {w : Fault} → Bad S ps (f i) w → broken (breakAt ps i w) ≡ broken b → Breaks f S ps i b
+      bad-here {w} a q = let r : breakAt ps i w ≡ b = cc in rw (← r) (here a)
 
-  pub Found : ℕ → Type 0
-  Found i = (ss : List ℕ) × (m : ℕ) × Leads f S i ss m
+      inner : (w : Walk) → (w ≡ broken b → Breaks f S ps i b) → after i w ≡ broken b → Breaks f S ps i b
+      inner (found ss m) ih q = absurd (let z : _≡_ {A = ℕ} 0 1 = cc in omega arith)
+      inner (broken d) ih q = ih q
 
-  decide : (n : ℕ) (ps : List ℕ) (i : ℕ) → Sector S i → Distinct (i ∷ ps) → ((x : ℕ) → In x ps → Sector S x) → length ps + n ≡ S - 3 → Breaks f S ps i ⊎ Found i
-  unfolding Found
-  decide zero ps i s d all e =
-      let q = few (S - 3) (i ∷ ps) d (λ x h. let z = ⊎-elim (λ (w : x ≡ i). subst (λ (k : ℕ). Sector S k) (sym w) s) (all x) h in (z .low, z .high)) in
-      absurd (omega arith)
-  decide (suc n) ps i s d all e = go (view S i (f i)) (decide n (i ∷ ps) (f i))
-    where
-      on : Names S i (f i) → Breaks f S (i ∷ ps) (f i) ⊎ ((ss : List ℕ) × (m : ℕ) × Leads f S (f i) ss m) → Breaks f S ps i ⊎ ((ss : List ℕ) × (m : ℕ) × Leads f S i ss m)
-      on a (inl b) = inl (goes-on a b)
-      on a (inr r) = inr (i ∷ r .0, r .1, next a (r .2))
+      on : Names S i (f i) → (Passed S (i ∷ ps) (f i) → length (i ∷ ps) + n ≡ S - 3 → walkOn f S (i ∷ ps) (f i) n ≡ broken b → Breaks f S (i ∷ ps) (f i) b)
+          → (t : Bool) → member (f i) ps ≡ t → onLink ps i (pick t (bad is-passed) (to (f i))) (λ x. walkOn f S (i ∷ ps) x n) ≡ broken b → Breaks f S ps i b
+      on a ih true m q = bad-here (comes-back (member-in (f i) ps m)) q
+      on a ih false m q = let h = member-not (f i) ps m in inner (walkOn f S (i ∷ ps) (f i) n) (λ r. onward a h (ih (passed-on p a h) (omega arith) r)) q
 
-      all′ : (x : ℕ) → (x ≡ i) ⊎ In x ps → Sector S x
-      all′ x (inl w) = subst (λ (k : ℕ). Sector S k) (sym w) s
-      all′ x (inr h) = all x h
+      go : {k : Link} → View S i (f i) k → (Passed S (i ∷ ps) (f i) → length (i ∷ ps) + n ≡ S - 3 → walkOn f S (i ∷ ps) (f i) n ≡ broken b → Breaks f S (i ∷ ps) (f i) b)
+          → onLink ps i (past ps k) (λ x. walkOn f S (i ∷ ps) x n) ≡ broken b → Breaks f S ps i b
+      go (v-end a) ih q = absurd (let z : _≡_ {A = ℕ} 0 1 = cc in omega arith)
+      go (v-to a) ih q = on a ih (member (f i) ps) refl q
+      go (v-bad (zero-met z)) ih q = bad-here (zero-met z) q
+      go (v-bad (above-met z)) ih q = bad-here (above-met z) q
+      go (v-bad (comes-back z)) ih q = absurd z
 
-      try : Names S i (f i) → (Sector S (f i) → Distinct (f i ∷ (i ∷ ps)) → ((x : ℕ) → In x (i ∷ ps) → Sector S x) → length (i ∷ ps) + n ≡ S - 3 → Breaks f S (i ∷ ps) (f i) ⊎ ((ss : List ℕ) × (m : ℕ) × Leads f S (f i) ss m)) → In (f i) ps ⊎ (In (f i) ps → ⊥) → Breaks f S ps i ⊎ ((ss : List ℕ) × (m : ℕ) × Leads f S i ss m)
-      try a ih (inl h) = inl (comes-back a h)
-      try a ih (inr h) = on a (ih (a .sector) ((⊎-elim (a .other) h), d) all′ (omega arith))
+  -- and where the elements break, the walk says so
+  so-broken : {ps : List ℕ} {i : ℕ} {b : Break} → Breaks f S ps i b → (n : ℕ) → Passed S ps i → length ps + n ≡ S - 3 → walkOn f S ps i n ≡ broken b
+  unfolding walkOn
+  so-broken r zero p l = absurd (omega (arith, passed-few p))
+  so-broken {ps} {i} (here (zero-met z)) (suc n) p l = rw (view-bad (p .sectors i (inl refl)) (view S i (f i)) (zero-met z))
+  so-broken {ps} {i} (here (above-met z)) (suc n) p l = rw (view-bad (p .sectors i (inl refl)) (view S i (f i)) (above-met z))
+  so-broken {ps} {i} (here (comes-back z)) (suc n) p l = rw (view-to (p .sectors i (inl refl)) (view S i (f i)) (passed-names p z), in-member (f i) ps z)
+  so-broken {ps} {i} (onward a h r) (suc n) p l = rw (view-to (p .sectors i (inl refl)) (view S i (f i)) a, not-member (f i) ps h, so-broken r n (passed-on p a h) (omega arith))
 
-      go : {l : Link} → View S i (f i) l → (Sector S (f i) → Distinct (f i ∷ (i ∷ ps)) → ((x : ℕ) → In x (i ∷ ps) → Sector S x) → length (i ∷ ps) + n ≡ S - 3 → Breaks f S (i ∷ ps) (f i) ⊎ ((ss : List ℕ) × (m : ℕ) × Leads f S (f i) ss m)) → Breaks f S ps i ⊎ ((ss : List ℕ) × (m : ℕ) × Leads f S i ss m)
-      go (v-end {m = m} a) ih = inr (i ∷ [], m, last a)
-      go (v-to a) ih = try a ih (in-or-not (f i) ps)
-      go (v-bad no-e no-n) ih = inl (bad-breaks no-e no-n)
+  consulted-few : {ps : List ℕ} {i : ℕ} {b : Break} → Breaks f S ps i b → Passed S ps i → b .consulted ≤ S - 3
+  consulted-few (here a) p = passed-few p
+  consulted-few (onward a h r) p = consulted-few r (passed-on p a h)
 
-  pub broken-breaks : {i : ℕ} → Sector S i → NoChain f S i ↔ Breaks f S [] i
-  unfolding Before Found
-  broken-breaks {i} s =
-      ((λ free. ⊎-elim (λ b. b) (λ r. absurd (free (r .0) (r .1) (record { leads = r .2; once = leads-distinct f S s (r .2) }))) (decide (S - 3) [] i s ((λ h. h), tt) (λ x h. absurd h) (omega arith))), λ b ss m c. no-lead s (λ p h. absurd h) b (c .leads))
+  module _ {i : ℕ} (s : Sector S i) where
+    start : Passed S [] i
+    start = record { once = ((λ h. h), tt); sectors = λ x. ⊎-elim (λ e. rw e s) (λ h. absurd h) }
+
+    -- the walk is broken at b exactly where the elements lead to the break b
+    pub broken-at : {b : Break} → (walk f S i (S - 3) ≡ broken b) ↔ Breaks f S [] i b
+    broken-at {b} = (broken-so (S - 3) [] i b start (omega arith), λ r. so-broken r (S - 3) start (omega arith))
+
+    -- no more elements are consulted than there are
+    pub break-few : {b : Break} → Breaks f S [] i b → b .consulted ≤ S - 3
+    break-few r = consulted-few r start
+
+    -- there is no chain exactly where the elements break
+    pub broken-breaks : NoChain f S i ↔ ((b : Break) × Breaks f S [] i b)
+    broken-breaks =
+        ((λ free. let r = broken-none f S s .1 free in (r .0, broken-at .0 (r .1))), λ r. broken-none f S s .0 (r .0, broken-at .1 (r .1)))
+
+-- the three faults, of 16 sectors: sector 2 is free, sector 2 leads back to 1, and 16 is no sector
+examples :
+    (walk (replaced (λ i. 0) 1 2) 16 1 13 ≡ broken (record { sector = 2; fault = is-zero; consulted = 2 }))
+    × (walk (replaced (replaced (λ i. 0) 2 1) 1 2) 16 1 13 ≡ broken (record { sector = 2; fault = is-passed; consulted = 2 }))
+    × (walk (replaced (λ i. 0) 1 16) 16 1 13 ≡ broken (record { sector = 1; fault = is-above; consulted = 1 }))
+unfolding walkOn member link replaced
+examples = (refl, refl, refl)

@@ -11,7 +11,9 @@ use lib.ListN.{length}
 use lib.Dec.{eqb, leb}
 use borrow.Author.Tests.{eqb-true, eqb-false, leb-true, leb-false}
 use Rattle.chains.specs.Chain.{Sector, Ends, fresh, used, blocked, Names, Leads, last, next, In, Distinct, Chain, NoChain, Common, lastOf}
-use Rattle.chains.specs.Chain.{Link, end, to, bad, pick, link, Walk, found, broken, after, onLink, walk}
+use Rattle.chains.specs.Chain.{Fault, Bad, zero-met, above-met, comes-back, is-zero, is-above, is-passed, Break}
+use Rattle.chains.specs.Chain.{Link, end, to, bad, pick, link, member, past, Walk, found, broken, after, onLink, walkOn, walk}
+use Rattle.chains.proofs.Members.{not-member, in-or-not}
 use Rattle.chains.proofs.Distinct.{few}
 
 -- ---- what an element says
@@ -20,35 +22,24 @@ use Rattle.chains.proofs.Distinct.{few}
 pub data View (S i x : ℕ) : Link → Type 0 where
   v-end : {m : ℕ} → Ends S i x m → View S i x (end m)
   v-to : Names S i x → View S i x (to x)
-  v-bad : ((m : ℕ) → Ends S i x m → ⊥) → (Names S i x → ⊥) → View S i x bad
-
-pub no-end : {S i x : ℕ} → x ≢ i → x ≢ S - 1 → x ≢ S - 2 → (m : ℕ) → Ends S i x m → ⊥
-no-end a b c m (fresh p) = a p
-no-end a b c m (used p) = b p
-no-end a b c m (blocked p) = c p
+  v-bad : {w : Fault} → Bad S [] x w → View S i x (bad w)
 
 pub view : (S i x : ℕ) → View S i x (link S i x)
 unfolding link
 view S i x = go (eqb x i) refl (eqb x (S - 1)) refl (eqb x (S - 2)) refl (leb 1 x) refl (leb x (S - 3)) refl
   where
     go : (b₁ : Bool) → eqb x i ≡ b₁ → (b₂ : Bool) → eqb x (S - 1) ≡ b₂ → (b₃ : Bool) → eqb x (S - 2) ≡ b₃ → (b₄ : Bool) → leb 1 x ≡ b₄ → (b₅ : Bool) → leb x (S - 3) ≡ b₅
-        → View S i x (pick b₁ (end 0) (pick b₂ (end 1) (pick b₃ (end 2) (pick b₄ (pick b₅ (to x) bad) bad))))
+        → View S i x (pick b₁ (end 0) (pick b₂ (end 1) (pick b₃ (end 2) (pick b₄ (pick b₅ (to x) (bad is-above)) (bad is-zero)))))
     go true e₁ b₂ e₂ b₃ e₃ b₄ e₄ b₅ e₅ = v-end (fresh (eqb-true x i e₁))
     go false e₁ true e₂ b₃ e₃ b₄ e₄ b₅ e₅ = v-end (used (eqb-true x (S - 1) e₂))
     go false e₁ false e₂ true e₃ b₄ e₄ b₅ e₅ = v-end (blocked (eqb-true x (S - 2) e₃))
     go false e₁ false e₂ false e₃ true e₄ true e₅ =
         v-to (record { other = eqb-false x i e₁; sector = record { low = leb-true 1 x e₄; high = leb-true x (S - 3) e₅ } })
     go false e₁ false e₂ false e₃ true e₄ false e₅ =
-        v-bad (no-end (eqb-false x i e₁) (eqb-false x (S - 1) e₂) (eqb-false x (S - 2) e₃))
-        (λ n. let l = n .sector .high in omega (arith, leb-false x (S - 3) e₅))
-    go false e₁ false e₂ false e₃ false e₄ b₅ e₅ =
-        v-bad (no-end (eqb-false x i e₁) (eqb-false x (S - 1) e₂) (eqb-false x (S - 2) e₃))
-        (λ n. let l = n .sector .low in omega (arith, leb-false 1 x e₄))
-
-pub view-bad : {S i x : ℕ} {l : Link} → View S i x l → ((m : ℕ) → Ends S i x m → ⊥) → (Names S i x → ⊥) → l ≡ bad
-view-bad (v-end {m = m} a) no-e no-n = absurd (no-e m a)
-view-bad (v-to a) no-e no-n = absurd (no-n a)
-view-bad (v-bad a b) no-e no-n = refl
+        let p = eqb-false x (S - 1) e₂ in
+        let q = eqb-false x (S - 2) e₃ in
+        v-bad (above-met (omega (arith, leb-false x (S - 3) e₅)))
+    go false e₁ false e₂ false e₃ false e₄ b₅ e₅ = v-bad (zero-met (omega (arith, leb-false 1 x e₄)))
 
 module _ {S i x : ℕ} (s : Sector S i) where
   pub one-mark : {m n : ℕ} → Ends S i x m → Ends S i x n → m ≡ n
@@ -67,15 +58,43 @@ module _ {S i x : ℕ} (s : Sector S i) where
   ends-or-names (used p) n = omega arith
   ends-or-names (blocked p) n = omega arith
 
+  pub ends-or-bad : {m : ℕ} {w : Fault} → Ends S i x m → Bad S [] x w → ⊥
+  ends-or-bad (fresh p) (zero-met e) = omega arith
+  ends-or-bad (fresh p) (above-met h) = omega arith
+  ends-or-bad (used p) (zero-met e) = omega arith
+  ends-or-bad (used p) (above-met h) = omega arith
+  ends-or-bad (blocked p) (zero-met e) = omega arith
+  ends-or-bad (blocked p) (above-met h) = omega arith
+  ends-or-bad e (comes-back h) = absurd h
+
+  pub names-or-bad : {w : Fault} → Names S i x → Bad S [] x w → ⊥
+  names-or-bad n (zero-met e) = omega arith
+  names-or-bad n (above-met h) = omega arith
+  names-or-bad n (comes-back h) = absurd h
+
+  one-fault : {v w : Fault} → Bad S [] x v → Bad S [] x w → v ≡ w
+  one-fault (zero-met e) (zero-met q) = refl
+  one-fault (zero-met e) (above-met h) = absurd (omega arith)
+  one-fault (zero-met e) (comes-back h) = absurd h
+  one-fault (above-met h) (zero-met e) = absurd (omega arith)
+  one-fault (above-met h) (above-met q) = refl
+  one-fault (above-met h) (comes-back q) = absurd q
+  one-fault (comes-back h) b = absurd h
+
   pub view-end : {l : Link} {m : ℕ} → View S i x l → Ends S i x m → l ≡ end m
   view-end (v-end a) e = ap end (one-mark a e)
   view-end (v-to n) e = absurd (ends-or-names e n)
-  view-end {m = m} (v-bad no-e no-n) e = absurd (no-e m e)
+  view-end (v-bad b) e = absurd (ends-or-bad e b)
 
   pub view-to : {l : Link} → View S i x l → Names S i x → l ≡ to x
   view-to (v-end a) n = absurd (ends-or-names a n)
   view-to (v-to _) n = refl
-  view-to (v-bad no-e no-n) n = absurd (no-n n)
+  view-to (v-bad b) n = absurd (names-or-bad n b)
+
+  pub view-bad : {l : Link} {w : Fault} → View S i x l → Bad S [] x w → l ≡ bad w
+  view-bad (v-end a) b = absurd (ends-or-bad a b)
+  view-bad (v-to n) b = absurd (names-or-bad n b)
+  view-bad (v-bad a) b = ap bad (one-fault a b)
 
 -- ---- where the elements lead
 
@@ -98,6 +117,10 @@ module _ (f : ℕ → ℕ) (S : ℕ) where
   last-cons (last a) k = refl
   last-cons (next a p) k = refl
 
+  pub first-in : {i m : ℕ} {ss : List ℕ} → Leads f S i ss m → In i ss
+  first-in (last a) = inl refl
+  first-in (next a p) = inl refl
+
   pub last-in : {i m : ℕ} {ss : List ℕ} → Leads f S i ss m → In (lastOf ss) ss
   last-in (last a) = inl refl
   last-in {i} (next {ss = ss} a p) = inr (subst (λ (k : ℕ). In k ss) (sym (last-cons p i)) (last-in p))
@@ -113,16 +136,15 @@ module _ (f : ℕ → ℕ) (S : ℕ) where
     pub leads : Leads f S x sectors m
     pub short : length sectors ≤ length ss
     pub same-last : lastOf sectors ≡ lastOf ss
-    pub inside : (y : ℕ) → In y sectors → In y ss
 
   pub rest : {i m : ℕ} {ss : List ℕ} → Leads f S i ss m → (x : ℕ) → In x ss → Rest x m ss
   rest {i} {m} (last a) x (inl p) =
-      record { sectors = i ∷ []; leads = subst (λ (k : ℕ). Leads f S k (i ∷ []) m) (sym p) (last a); short = omega arith; same-last = refl; inside = λ y h. h }
+      record { sectors = i ∷ []; leads = subst (λ (k : ℕ). Leads f S k (i ∷ []) m) (sym p) (last a); short = omega arith; same-last = refl }
   rest {i} {m} (next {ss = ss} a q) x (inl p) =
-      record { sectors = i ∷ ss; leads = subst (λ (k : ℕ). Leads f S k (i ∷ ss) m) (sym p) (next a q); short = omega arith; same-last = refl; inside = λ y h. h }
+      record { sectors = i ∷ ss; leads = subst (λ (k : ℕ). Leads f S k (i ∷ ss) m) (sym p) (next a q); short = omega arith; same-last = refl }
   rest {i} (next a q) x (inr p) =
       let r = rest q x p in
-      record { sectors = r .sectors; leads = r .leads; short = omega (arith, r .short); same-last = r .same-last ∙ sym (last-cons q i); inside = λ y h. inr (r .inside y h) }
+      record { sectors = r .sectors; leads = r .leads; short = omega (arith, r .short); same-last = r .same-last ∙ sym (last-cons q i) }
 
   pub leads-distinct : {i m : ℕ} {ss : List ℕ} → Sector S i → Leads f S i ss m → Distinct ss
   leads-distinct s (last a) = ((λ h. h), tt)
@@ -135,49 +157,57 @@ module _ (f : ℕ → ℕ) (S : ℕ) where
 
   -- ---- the walk
 
-  -- with enough sectors allowed, the walk finds where the elements lead
-  pub walk-finds : {i m : ℕ} {ss : List ℕ} → Sector S i → Leads f S i ss m → (n : ℕ) → length ss ≤ n → walk f S i n ≡ found ss m
-  unfolding walk
-  walk-finds s (last a) zero h = absurd (omega arith)
-  walk-finds {i} s (last a) (suc n) h = rw (view-end s (view S i (f i)) a)
-  walk-finds s (next a p) zero h = absurd (omega arith)
-  walk-finds {i} s (next a p) (suc n) h = rw (view-to s (view S i (f i)) a, walk-finds (a .sector) p n (omega arith))
+  -- what a chain has not passed before sector i, it does not pass after it, nor sector i again
+  pub no-return : (ps : List ℕ) {i m : ℕ} {ss : List ℕ} → Sector S i → Names S i (f i) → Leads f S (f i) ss m → (Common (i ∷ ss) ps → ⊥) → Common ss (i ∷ ps) → ⊥
+  no-return ps s a p h c = ⊎-elim (λ e. leads-distinct s (next a p) .0 (rw e at (c .1))) (λ q. h (c .0, inr (c .1), q)) (c .2)
 
-  -- what the walk finds is where the elements lead
-  pub walk-leads : (n i : ℕ) (ss : List ℕ) (m : ℕ) → walk f S i n ≡ found ss m → Leads f S i ss m
-  unfolding walk
-  walk-leads zero i ss m e = absurd (let z : _≡_ {A = ℕ} 0 1 = cc in omega arith)
-  walk-leads (suc n) i ss m e = go (view S i (f i)) (walk-leads n (f i)) e
+  -- with enough sectors allowed, the walk finds where the elements lead, through sectors that were not passed
+  pub walk-on-finds : (ps : List ℕ) {i m : ℕ} {ss : List ℕ} → Sector S i → Leads f S i ss m → (Common ss ps → ⊥) → (n : ℕ) → length ss ≤ n → walkOn f S ps i n ≡ found ss m
+  unfolding walkOn
+  walk-on-finds ps s (last a) h zero l = absurd (omega arith)
+  walk-on-finds ps {i} s (last a) h (suc n) l = rw (view-end s (view S i (f i)) a)
+  walk-on-finds ps s (next a p) h zero l = absurd (omega arith)
+  walk-on-finds ps {i} s (next {ss = ss} a p) h (suc n) l =
+      rw (
+        view-to s (view S i (f i)) a,
+        not-member (f i) ps (λ q. h (f i, inr (first-in p), q)),
+        walk-on-finds (i ∷ ps) (a .sector) p (no-return ps s a p h) n (omega arith),
+      )
+
+  pub walk-finds : {i m : ℕ} {ss : List ℕ} → Sector S i → Leads f S i ss m → (n : ℕ) → length ss ≤ n → walk f S i n ≡ found ss m
+  walk-finds s p = walk-on-finds [] s p (λ c. c .2)
+
+  -- what the walk finds is where the elements lead, in no more sectors than were allowed
+  pub walk-on-leads : (n : ℕ) (ps : List ℕ) (i : ℕ) (ss : List ℕ) (m : ℕ) → walkOn f S ps i n ≡ found ss m → Leads f S i ss m × (length ss ≤ n)
+  unfolding walkOn
+  walk-on-leads zero ps i ss m e = absurd (let z : _≡_ {A = ℕ} 0 1 = cc in omega arith)
+  walk-on-leads (suc n) ps i ss m e = go (view S i (f i)) (walk-on-leads n (i ∷ ps) (f i)) e
     where
-      inner : Names S i (f i) → (w : Walk) → ((us : List ℕ) (k : ℕ) → w ≡ found us k → Leads f S (f i) us k) → after i w ≡ found ss m → Leads f S i ss m
+      inner : Names S i (f i) → (w : Walk) → ((us : List ℕ) (k : ℕ) → w ≡ found us k → Leads f S (f i) us k × (length us ≤ n)) → after i w ≡ found ss m → Leads f S i ss m × (length ss ≤ suc n)
       inner a (found us k) ih q =
           let e₁ : ss ≡ i ∷ us = cc in
           let e₂ : m ≡ k = cc in
-          rw (e₁, e₂) (next a (ih us k refl))
-      inner a broken ih q = absurd (let z : _≡_ {A = ℕ} 0 1 = cc in omega arith)
+          let r = ih us k refl in
+          rw (e₁, e₂) (next a (r .0), omega (arith, r .1))
+      inner a (broken b) ih q = absurd (let z : _≡_ {A = ℕ} 0 1 = cc in omega arith)
 
-      go : {l : Link} → View S i (f i) l → ((us : List ℕ) (k : ℕ) → walk f S (f i) n ≡ found us k → Leads f S (f i) us k) → onLink i l (λ x. walk f S x n) ≡ found ss m → Leads f S i ss m
+      on : Names S i (f i) → ((us : List ℕ) (k : ℕ) → walkOn f S (i ∷ ps) (f i) n ≡ found us k → Leads f S (f i) us k × (length us ≤ n)) → (b : Bool) → onLink ps i (pick b (bad is-passed) (to (f i))) (λ x. walkOn f S (i ∷ ps) x n) ≡ found ss m → Leads f S i ss m × (length ss ≤ suc n)
+      on a ih true q = absurd (let z : _≡_ {A = ℕ} 0 1 = cc in omega arith)
+      on a ih false q = inner a (walkOn f S (i ∷ ps) (f i) n) ih q
+
+      go : {l : Link} → View S i (f i) l → ((us : List ℕ) (k : ℕ) → walkOn f S (i ∷ ps) (f i) n ≡ found us k → Leads f S (f i) us k × (length us ≤ n)) → onLink ps i (past ps l) (λ x. walkOn f S (i ∷ ps) x n) ≡ found ss m → Leads f S i ss m × (length ss ≤ suc n)
       go (v-end {m = k} a) ih q =
           let e₁ : ss ≡ i ∷ [] = cc in
           let e₂ : m ≡ k = cc in
-          rw (e₁, e₂) (last a)
-      go (v-to a) ih q = inner a (walk f S (f i) n) ih q
-      go (v-bad a b) ih q = absurd (let z : _≡_ {A = ℕ} 0 1 = cc in omega arith)
+          rw (e₁, e₂) (last a, omega arith)
+      go (v-to a) ih q = on a ih (member (f i) ps) q
+      go (v-bad a) ih q = absurd (let z : _≡_ {A = ℕ} 0 1 = cc in omega arith)
 
-  -- and takes no more sectors than were allowed
+  pub walk-leads : (n i : ℕ) (ss : List ℕ) (m : ℕ) → walk f S i n ≡ found ss m → Leads f S i ss m
+  walk-leads n i ss m e = walk-on-leads n [] i ss m e .0
+
   pub walk-short : (n i : ℕ) (ss : List ℕ) (m : ℕ) → walk f S i n ≡ found ss m → length ss ≤ n
-  unfolding walk
-  walk-short zero i ss m e = absurd (let z : _≡_ {A = ℕ} 0 1 = cc in omega arith)
-  walk-short (suc n) i ss m e = go (λ x. walk-short n x) (link S i (f i)) e
-    where
-      inner : (w : Walk) → ((us : List ℕ) (k : ℕ) → w ≡ found us k → length us ≤ n) → after i w ≡ found ss m → length ss ≤ suc n
-      inner (found us k) ih q = let e₁ : ss ≡ i ∷ us = cc in omega (arith, ap length e₁, ih us k refl)
-      inner broken ih q = absurd (let z : _≡_ {A = ℕ} 0 1 = cc in omega arith)
-
-      go : ((x : ℕ) (us : List ℕ) (k : ℕ) → walk f S x n ≡ found us k → length us ≤ n) → (l : Link) → onLink i l (λ x. walk f S x n) ≡ found ss m → length ss ≤ suc n
-      go ih (end k) q = let e₁ : ss ≡ i ∷ [] = cc in omega (arith, ap length e₁)
-      go ih (to x) q = inner (walk f S x n) (ih x) q
-      go ih bad q = absurd (let z : _≡_ {A = ℕ} 0 1 = cc in omega arith)
+  walk-short n i ss m e = walk-on-leads n [] i ss m e .1
 
   -- ---- the theorems
 
@@ -188,13 +218,13 @@ module _ (f : ℕ → ℕ) (S : ℕ) where
         ((λ e. let p = walk-leads (S - 3) i ss m e in record { leads = p; once = leads-distinct s p }), λ c. walk-finds s (c .leads) (S - 3) (leads-short s (c .leads)))
 
     -- the walk is broken exactly where there is no chain
-    pub broken-none : (walk f S i (S - 3) ≡ broken) ↔ NoChain f S i
+    pub broken-none : ((b : Break) × (walk f S i (S - 3) ≡ broken b)) ↔ NoChain f S i
     broken-none =
-        ((λ e ss m c. let z : _≡_ {A = ℕ} 0 1 = cc (found-chain .1 c) in omega arith), λ free. go free (walk f S i (S - 3)) refl)
+        ((λ r ss m c. let q = r .1 in let z : _≡_ {A = ℕ} 0 1 = cc (found-chain .1 c) in omega arith), λ free. go free (walk f S i (S - 3)) refl)
       where
-        go : NoChain f S i → (w : Walk) → walk f S i (S - 3) ≡ w → w ≡ broken
+        go : NoChain f S i → (w : Walk) → walk f S i (S - 3) ≡ w → (b : Break) × (walk f S i (S - 3) ≡ broken b)
         go free (found ss m) e = absurd (free ss m (found-chain .0 e))
-        go free broken e = refl
+        go free (broken b) e = (b, e)
 
     pub chain-unique : {ss ts : List ℕ} {m n : ℕ} → Chain f S i ss m → Chain f S i ts n → (ss ≡ ts) × (m ≡ n)
     chain-unique c d = leads-unique s (c .leads) (d .leads)
@@ -249,22 +279,14 @@ ends-last f S l s b (last a) (inl p) = sym p
 ends-last f S l {k = k} s b (next a q) (inl p) = absurd (ends-or-names s (subst (λ (x : ℕ). Ends S x (f x) k) p b) a)
 ends-last f S l {i} s b (next a q) (inr p) = last-cons f S q i ∙ ends-last f S l (a .sector) b q p
 
-pub in-or-not : (x : ℕ) (xs : List ℕ) → In x xs ⊎ (In x xs → ⊥)
-in-or-not x [] = inr (λ h. h)
-in-or-not x (y ∷ ys) = go (eqb x y) refl (in-or-not x ys)
-  where
-    go : (b : Bool) → eqb x y ≡ b → In x ys ⊎ (In x ys → ⊥) → In x (y ∷ ys) ⊎ (In x (y ∷ ys) → ⊥)
-    go true e r = inl (inl (eqb-true x y e))
-    go false e (inl r) = inl (inr r)
-    go false e (inr r) = inr (⊎-elim (eqb-false x y e) r)
+-- where l ends a chain before and after, every chain keeps its sectors: it passes l last, or not at all
+pub chain-kept : (f g : ℕ → ℕ) (S l : ℕ) → ((x : ℕ) → Sector S x → x ≢ l → g x ≡ f x) → {i m k n : ℕ} {ss : List ℕ}
+    → Sector S i → Ends S l (f l) m → Ends S l (g l) k → Chain f S i ss n → (r : ℕ) × Chain g S i ss r
+chain-kept f g S l same {k = k} {n = n} {ss = ss} s a b c =
+    ⊎-elim (λ h. (k, chain-marked f g S l same s (ends-last f S l s a (c .leads) h) b c)) (λ h. (n, chain-apart f g S l same s h c)) (in-or-not l ss)
 
--- where l ends a chain before and after, a broken chain stays broken
+-- and a broken chain stays broken
 pub none-stays : (f g : ℕ → ℕ) (S l : ℕ) → ((x : ℕ) → Sector S x → x ≢ l → g x ≡ f x) → {i m k : ℕ} → Sector S i → Ends S l (f l) m → Ends S l (g l) k → NoChain f S i → NoChain g S i
-none-stays f g S l same {i} {m} s a b free ss n c = go (in-or-not l ss)
-  where
-    back : (x : ℕ) → Sector S x → x ≢ l → f x ≡ g x
-    back x t h = sym (same x t h)
-
-    go : In l ss ⊎ (In l ss → ⊥) → ⊥
-    go (inl h) = free ss m (chain-marked g f S l back s (ends-last g S l s b (c .leads) h) a c)
-    go (inr h) = free ss n (chain-apart g f S l back s h c)
+none-stays f g S l same s a b free ss n c =
+    let r = chain-kept g f S l (λ x t h. sym (same x t h)) s b a c in
+    free ss (r .0) (r .1)

@@ -7,7 +7,7 @@ use Prim.Native.Nat.{ℕ}
 use lib.ListN.{replicate}
 use borrow.Author.Tests.{eq-eqb, ne-eqb}
 use Rattle.bits.specs.Bits.{digit, bit, number, field}
-use Rattle.chains.specs.Chain.{Sector, Ends, Common, Chain, NoChain, lastOf, found, walk, link}
+use Rattle.chains.specs.Chain.{Sector, Ends, Common, Chain, NoChain, lastOf, found, walk, walkOn, member, link}
 use Rattle.chains.specs.Packed.{packed}
 use Rattle.chains.specs.Products.{InNoChain}
 use Rattle.chains.specs.Marks.{replaced}
@@ -51,9 +51,9 @@ pub shared : ℕ → ℕ
 shared = packed (0x33 ∷ 0xF0 ∷ replicate 5 0) 0 4
 
 unblocked : (walk shared 16 1 13 ≡ found (1 ∷ 3 ∷ []) 1) × (walk shared 16 2 13 ≡ found (2 ∷ 3 ∷ []) 1)
-unfolding shared walk link field number bit digit
+unfolding shared walkOn member link field number bit digit
 unblocked = (refl, refl)
 
 pub incident : (walk (replaced shared 3 14) 16 1 13 ≡ found (1 ∷ 3 ∷ []) 2) × (walk (replaced shared 3 14) 16 2 13 ≡ found (2 ∷ 3 ∷ []) 2)
-unfolding shared replaced walk link field number bit digit
+unfolding shared replaced walkOn member link field number bit digit
 incident = (refl, refl)

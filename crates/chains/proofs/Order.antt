@@ -3,7 +3,7 @@
 use mathlib.Core.Path.{_≡_, refl}
 use mathlib.Core.Logic.{inl, inr}
 use mathlib.Core.List.{List, [], _∷_}
-use Prim.Native.Nat.{ℕ, zero, suc, _+_, _≤_, _<_}
+use Prim.Native.Nat.{ℕ, zero, suc, _+_, _<_}
 use native.Mathlib.Numerals.{add-one}
 use native.Mathlib.Omega.{arith}
 use lib.ListN.{length, getD}
@@ -25,16 +25,9 @@ module _ (f : ℕ → ℕ) (S : ℕ) where
   leads-next (next a p) zero h = leads-first p
   leads-next (next a p) (suc k) h = leads-next p k (omega arith)
 
-  leads-some : {i m : ℕ} {ss : List ℕ} → Leads f S i ss m → 1 ≤ length ss
-  leads-some (last a) = omega arith
-  leads-some (next a p) = omega arith
-
   module _ {i m : ℕ} {ss : List ℕ} (c : Chain f S i ss m) where
     pub chain-first : getD ss 0 0 ≡ i
     chain-first = leads-first (c .leads)
-
-    pub chain-some : 1 ≤ length ss
-    chain-some = leads-some (c .leads)
 
     pub chain-next : (k : ℕ) → k + 1 < length ss → getD ss (k + 1) 0 ≡ f (getD ss k 0)
     chain-next k h = rw add-one (leads-next (c .leads) k (omega arith))

@@ -5,29 +5,22 @@ use mathlib.Core.Path.{_≡_, refl, sym, _∙_}
 use mathlib.Core.Logic.{_≢_, _↔_, _⊎_, inl, inr, ⊎-elim}
 use mathlib.Core.Bool.{Bool, true, false, _&&_, _||_, false≢true}
 use mathlib.Core.List.{List, [], _∷_}
-use Prim.Native.Nat.{ℕ, zero, suc, _-_, _%_, _≤_, _<_}
+use Prim.Native.Nat.{ℕ, zero, suc, _-_, _≤_, _<_}
 use native.Mathlib.Omega.{arith}
 use native.Mathlib.Decide.{decLt, ℕ-discrete}
-use lib.Dec.{eqb}
-use borrow.Author.Tests.{eqb-true, eq-eqb, ne-eqb}
-use Rattle.chains.specs.Chain.{Sector, In, Common, Chain, lastOf, Walk, found, broken, walk}
-use Rattle.chains.specs.Products.{Chained, Disjoint, Broken, Shares, chainAt, sectorsOf, isBroken, brokenAt, member, meet, some, sharesAt, when, lastIn, lastAt}
-use Rattle.chains.proofs.Laws.{found-chain, broken-none, common-last, chain-sectors, last-in}
-use Rattle.chains.specs.Packed.{lastLeft}
+use lib.ListN.{length}
+use Rattle.chains.specs.Chain.{Sector, In, Common, Chain, lastOf, Walk, found, broken, walk, member}
+use Rattle.chains.specs.Products.{Chained, Disjoint, Broken, Shares, chainAt, sectorsOf, markOf, isBroken, brokenAt, meet, some, sharesAt, when, lastIn, lastAt, countAt}
+use Rattle.chains.proofs.Members.{or-true, true-or, member-in, in-member}
+use Rattle.chains.proofs.Laws.{found-chain, broken-none, common-last, chain-sectors, last-in, last-ends}
+use Rattle.chains.proofs.Told.{mark-said}
+use Rattle.chains.specs.Packed.{markSaid}
 
 -- ---- tests
 
 and-true : (a b : Bool) → (a && b) ≡ true → (a ≡ true) × (b ≡ true)
 and-true true b e = (refl, e)
 and-true false b e = absurd (false≢true e)
-
-or-true : (a b : Bool) → (a || b) ≡ true → (a ≡ true) ⊎ (b ≡ true)
-or-true true b e = inl e
-or-true false b e = inr e
-
-true-or : (a : Bool) → (a || true) ≡ true
-true-or true = refl
-true-or false = refl
 
 some-true : (n : ℕ) (t : ℕ → Bool) → some n t ≡ true → (i : ℕ) × (i < n) × (t i ≡ true)
 unfolding some
@@ -46,17 +39,6 @@ true-some (suc n) t i h e = go (decLt i n) (true-some n t i)
     go : Dec (i < n) → (i < n → t i ≡ true → some n t ≡ true) → (some n t || t n) ≡ true
     go (yes l) ih = rw (ih l e)
     go (no l) ih = let q : i ≡ n = omega arith in rw (← q, e, true-or)
-
-member-in : (x : ℕ) (ys : List ℕ) → member x ys ≡ true → In x ys
-unfolding member
-member-in x [] e = absurd (false≢true e)
-member-in x (y ∷ ys) e = ⊎-elim (λ a. inl (eqb-true x y a)) (λ a. inr (member-in x ys a)) (or-true (eqb x y) (member x ys) e)
-
-in-member : (x : ℕ) (ys : List ℕ) → In x ys → member x ys ≡ true
-unfolding member
-in-member x [] h = absurd h
-in-member x (y ∷ ys) (inl e) = rw (eq-eqb x y e)
-in-member x (y ∷ ys) (inr h) = rw (in-member x ys h, true-or)
 
 meet-common : (xs ys : List ℕ) → meet xs ys ≡ true → Common xs ys
 unfolding meet
@@ -106,11 +88,11 @@ module _ {P : ℕ → Type 0} {p : ℕ → Bool} {S : ℕ} (t : Tested P p S) (f
     where
       go : P j → (w : Walk) → walk f S j (S - 3) ≡ w → isBroken w ≡ true → Broken P f S j
       go v (found ss m) q b = absurd (false≢true b)
-      go v broken q b = record { is-product = v; none = broken-none f S (t .sector _ v) .0 q }
+      go v (broken d) q b = record { is-product = v; none = broken-none f S (t .sector _ v) .0 (d, q) }
 
   pub so-broken : (j : ℕ) → Broken P f S j → brokenAt p f S j ≡ true
   unfolding brokenAt
-  so-broken j b = rw (t .test j (b .is-product), broken-none f S (t .sector _ (b .is-product)) .1 (b .none))
+  so-broken j b = rw (t .test j (b .is-product), broken-none f S (t .sector _ (b .is-product)) .1 (b .none) .1)
 
   -- every product has a chain exactly where none is broken
   pub chained-none : Chained P f S ↔ ((j : ℕ) → Broken P f S j → ⊥)
@@ -118,7 +100,7 @@ module _ {P : ℕ → Type 0} {p : ℕ → Bool} {S : ℕ} (t : Tested P p S) (f
     where
       go : (j : ℕ) → P j → (Broken P f S j → ⊥) → (w : Walk) → walk f S j (S - 3) ≡ w → (ss : List ℕ) × (m : ℕ) × Chain f S j ss m
       go j v h (found ss m) q = (ss, m, found-chain f S (t .sector _ v) .0 q)
-      go j v h broken q = absurd (h (record { is-product = v; none = broken-none f S (t .sector _ v) .0 q }))
+      go j v h (broken d) q = absurd (h (record { is-product = v; none = broken-none f S (t .sector _ v) .0 (d, q) }))
 
   -- ---- 11
 
@@ -128,7 +110,7 @@ module _ {P : ℕ → Type 0} {p : ℕ → Bool} {S : ℕ} (t : Tested P p S) (f
     where
       go : (w : Walk) → walk f S j (S - 3) ≡ w → In x (sectorsOf w) → (m : ℕ) × Chain f S j (sectorsOf w) m
       go (found ss m) q i = (m, found-chain f S (t .sector _ v) .0 q)
-      go broken q i = absurd i
+      go (broken d) q i = absurd i
 
   pub so-sectors : {j m : ℕ} {ss : List ℕ} → P j → Chain f S j ss m → sectorsOf (chainAt f S j) ≡ ss
   so-sectors v d = rw (found-chain f S (t .sector _ v) .1 d)
@@ -198,7 +180,11 @@ module _ {P : ℕ → Type 0} {p : ℕ → Bool} {S : ℕ} (t : Tested P p S) (f
         where
           inner : (w : Walk) → walk f S j (S - 3) ≡ w → lastIn w ≢ 0 → Ended P f S j (lastIn w)
           inner (found ss m) q h = record { is-product = t .so j e; sectors = ss; mark = m; chain = found-chain f S (t .sector _ (t .so j e)) .0 q; ends = refl }
-          inner broken q h = absurd (h refl)
+          inner (broken d) q h = absurd (h refl)
+
+  -- where every product has a chain, every product ends somewhere
+  pub last-some : Chained P f S → {j : ℕ} → P j → lastAt p f S j ≢ 0
+  last-some all {j} v z = let d = all j v in omega (arith, product-last v (d .2), z, chain-last (t .sector _ v) (d .2) .low)
 
   pub last-small : (j : ℕ) → lastAt p f S j ≤ S - 3
   last-small j = elim (ℕ-discrete (lastAt p f S j) 0) [
@@ -238,35 +224,33 @@ module _ {P : ℕ → Type 0} {p : ℕ → Bool} {S : ℕ} (t : Tested P p S) (f
         common = common-last f S (t .sector _ (g .is-product)) (g .chain) (d .chain) .1 (sym (g .ends) ∙ h .same ∙ d .ends);
       })
 
-  -- ---- what the number r that the walk gives tells of product j
+  -- what is no product is not broken, and ends nowhere
+  pub no-product : (j : ℕ) → p j ≡ false → (brokenAt p f S j ≡ false) × (lastAt p f S j ≡ 0) × (countAt p f S j ≡ 0)
+  unfolding brokenAt lastAt countAt
+  no-product j e = (rw e, rw e, rw e)
 
-  module _ (most : S ≤ 255) (j r : ℕ) (v : p j ≡ true) (q : r ≡ lastLeft (S - 3) (chainAt f S j)) where
-    pub number-broken : r ≡ 0 → brokenAt p f S j ≡ true
-    unfolding brokenAt
-    number-broken z = rw v (go (walk f S j (S - 3)) refl (sym q ∙ z))
-      where
-        go : (w : Walk) → walk f S j (S - 3) ≡ w → lastLeft (S - 3) w ≡ 0 → isBroken w ≡ true
-        go (found ss m) e h = let s = t .sector j (t .so j v) in absurd (omega (arith, chain-last s (found-chain f S s .0 e) .low))
-        go broken e h = refl
+  -- ---- what is told of a product
 
-    pub number-ends : r ≢ 0 → (brokenAt p f S j ≡ false) × (r % 256 ≡ lastAt p f S j) × (lastAt p f S j ≢ 0)
-    unfolding brokenAt lastAt
-    number-ends z = rw v (go (walk f S j (S - 3)) refl q)
-      where
-        go : (w : Walk) → walk f S j (S - 3) ≡ w → r ≡ lastLeft (S - 3) w → (isBroken w ≡ false) × (r % 256 ≡ lastIn w) × (lastIn w ≢ 0)
-        go (found ss m) e h =
-            let s = t .sector j (t .so j v) in
-            let l = chain-last s (found-chain f S s .0 e) in
-            (refl, omega arith, λ y. omega arith)
-        go broken e h = absurd (z h)
+  -- its chain's last sector, the number of its sectors, and its mark, which the last sector's element has
+  pub record Told (j : ℕ) : Type 0 where
+    pub is-product : p j ≡ true
+    pub sector : Sector S (lastAt p f S j)
+    pub last-is : lastAt p f S j ≡ lastOf (sectorsOf (chainAt f S j))
+    pub count-is : countAt p f S j ≡ length (sectorsOf (chainAt f S j))
+    pub mark-is : markSaid S (lastAt p f S j) (f (lastAt p f S j)) ≡ markOf (chainAt f S j)
 
-    pub number-test : eqb r 0 ≡ brokenAt p f S j
-    number-test = elim (ℕ-discrete r 0) [
-      | yes z ↦ eq-eqb r 0 z ∙ sym (number-broken z)
-      | no z ↦ ne-eqb r 0 z ∙ sym (number-ends z .0)
-    ]
-
-  -- where j is no product
-  pub no-number : (j : ℕ) → p j ≡ false → (brokenAt p f S j ≡ false) × (lastAt p f S j ≡ 0)
-  unfolding brokenAt lastAt
-  no-number j e = (rw e, rw e)
+  pub told : (j : ℕ) → lastAt p f S j ≢ 0 → Told j
+  unfolding countAt
+  told j h =
+      let d = last-product j h in
+      let v = t .test j (d .is-product) in
+      let s = t .sector j (d .is-product) in
+      let q = found-chain f S s .1 (d .chain) in
+      let l = chain-last s (d .chain) in
+      record {
+        is-product = v;
+        sector = rw (d .ends) l;
+        last-is = rw q (d .ends);
+        count-is = rw v;
+        mark-is = rw (d .ends, q) (mark-said l (last-ends f S (d .chain .leads)));
+      }

@@ -8,7 +8,7 @@ use Prim.Native.Nat.{ℕ, zero, suc, _-_, _≤_}
 use native.Mathlib.Omega.{arith}
 use lib.ListN.{length}
 use Rattle.chains.specs.Chain.{In, Common, Distinct, Chain, Walk, found, broken, walk}
-use Rattle.chains.specs.Products.{Disjoint, sectorsOf, chainAt, ifProduct, together}
+use Rattle.chains.specs.Products.{Shares, sectorsOf, chainAt, ifProduct, together}
 use Rattle.chains.proofs.Laws.{found-chain, chain-sectors}
 use Rattle.chains.proofs.Distinct.{few}
 use Rattle.chains.proofs.ProductLaws.{Tested}
@@ -37,7 +37,7 @@ module _ {P : ℕ → Type 0} {p : ℕ → Bool} {S : ℕ} (t : Tested P p S) (f
     where
       go : (b : Bool) → p j ≡ b → (w : Walk) → walk f S j (S - 3) ≡ w → In x (ifProduct b (sectorsOf w)) → Passes j x
       go true e (found ss m) q h = let v = t .so j e in record { is-product = v; sectors = ss; mark = m; chain = found-chain f S (t .sector j v) .0 q; inside = h }
-      go true e broken q h = absurd h
+      go true e (broken d) q h = absurd h
       go false e w q h = absurd h
 
   passed : (n x : ℕ) → In x (together p f S n) → (j : ℕ) × (j ≤ n) × Passes j x
@@ -52,18 +52,36 @@ module _ {P : ℕ → Type 0} {p : ℕ → Bool} {S : ℕ} (t : Tested P p S) (f
     where
       go : (b : Bool) → p j ≡ b → (w : Walk) → walk f S j (S - 3) ≡ w → Distinct (ifProduct b (sectorsOf w))
       go true e (found ss m) q = found-chain f S (t .sector j (t .so j e)) .0 q .once
-      go true e broken q = tt
+      go true e (broken d) q = tt
       go false e w q = tt
 
-  pub together-once : Disjoint P f S → (n : ℕ) → Distinct (together p f S n)
-  unfolding together
-  together-once apart zero = tt
-  together-once apart (suc n) =
-      distinct-append (together p f S n) (ifProduct (p (suc n)) (sectorsOf (chainAt f S (suc n)))) (together-once apart n) (once (suc n))
-      (λ c. let r = passed n (c .0) (c .1) in let a = r .2 in let b = one (suc n) (c .0) (c .2) in
-      apart (r .0) (suc n) (a .is-product) (b .is-product) (λ q. omega (arith, q, r .1)) (a .sectors) (b .sectors) (a .mark) (b .mark) (a .chain) (b .chain) (c .0, a .inside, b .inside))
+  -- none of the products 1, .., n shares a sector with a lower one
+  module _ (n : ℕ) (clean : (k : ℕ) → k ≤ n → Shares P f S k → ⊥) where
+    pub together-once : Distinct (together p f S n)
+    unfolding together
+    together-once = upto n (omega arith)
+      where
+        upto : (m : ℕ) → m ≤ n → Distinct (together p f S m)
+        upto zero l = tt
+        upto (suc m) l =
+            distinct-append (together p f S m) (ifProduct (p (suc m)) (sectorsOf (chainAt f S (suc m)))) (upto m (omega arith)) (once (suc m))
+            (λ c. let r = passed m (c .0) (c .1) in let a = r .2 in let b = one (suc m) (c .0) (c .2) in
+            clean (suc m) l
+            (record {
+              lower = r .0;
+              below = omega (arith, r .1);
+              product-lower = a .is-product;
+              product-k = b .is-product;
+              sectors = a .sectors;
+              mark = a .mark;
+              sectors-k = b .sectors;
+              mark-k = b .mark;
+              chain = a .chain;
+              chain-k = b .chain;
+              common = (c .0, a .inside, b .inside);
+            }))
 
-  pub together-few : Disjoint P f S → (n : ℕ) → length (together p f S n) ≤ S - 3
-  together-few apart n =
-      few (S - 3) (together p f S n) (together-once apart n)
-      (λ x h. let r = passed n x h .2 in let s = chain-sectors f S (t .sector _ (r .is-product)) (r .chain) x (r .inside) in (s .low, s .high))
+    pub together-few : length (together p f S n) ≤ S - 3
+    together-few =
+        few (S - 3) (together p f S n) together-once
+        (λ x h. let r = passed n x h .2 in let s = chain-sectors f S (t .sector _ (r .is-product)) (r .chain) x (r .inside) in (s .low, s .high))

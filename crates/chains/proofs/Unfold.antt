@@ -1,142 +1,112 @@
--- One step of the walk, by comparing the element, and what the number that `last` gives tells of the whole walk: the last sector is below
--- 256, so that it and the sectors still allowed can be taken apart again. Assumes nothing.
-use mathlib.Core.Path.{_≡_, refl, sym, ap, _∙_}
+-- One step of a walk, by comparing the element. Assumes nothing.
+use mathlib.Core.Path.{_≡_, refl, ap, _∙_}
 use mathlib.Core.Logic.{_≢_}
-use mathlib.Core.Bool.{Bool, true, false, _&&_, _||_, not, true≢false, false≢true}
-use mathlib.Core.List.{List}
-use Prim.Native.Nat.{ℕ, zero, suc, _+_, _-_, _*_, _/_, _%_, _≤_, _<_}
+use mathlib.Core.Bool.{true, false}
+use mathlib.Core.List.{List, [], _∷_}
+use Prim.Native.Nat.{ℕ, zero, suc, _+_, _-_, _*_}
 use native.Mathlib.Omega.{arith}
-use native.Mathlib.Numerals.{sub-one}
-use native.Mathlib.Decide.{ℕ-discrete}
-use lib.Dec.{eqb, ltb}
-use borrow.Author.Tests.{eq-eqb, ne-eqb, le-leb, lt-leb, eqb-true, eqb-false, ltb-true, ltb-false}
-use lib.ListN.{length}
-use Rattle.chains.specs.Chain.{Sector, Ends, fresh, used, blocked, Leads, lastOf, Walk, found, broken, after, onLink, walk, link, Link, end, to, bad}
-use Rattle.chains.specs.Packed.{told, lastLeft, markSaid}
-use Rattle.chains.specs.declared.Walked.the-variants as W
-use Rattle.chains.proofs.Laws.{walk-leads, walk-short, last-cons, last-in, last-ends, leads-sectors}
+use native.Mathlib.Numerals.{add-one, sub-one}
+use lib.ListN.{getD, set}
+use borrow.Author.Tests.{eq-eqb, ne-eqb}
+use Rattle.chains.specs.Chain.{Sector, Names, Leads, Link, end, to, bad, link, member, past, Walk, found, broken, after, onLink, walkOn, walk}
+use Rattle.chains.specs.Packed.{lastLeft}
+use Rattle.chains.specs.Owners.{stop, again, byLink, follow}
+use Rattle.chains.proofs.Laws.{View, v-end, v-to, v-bad, view, walk-on-finds, walk-on-leads, no-return, walk-finds, walk-leads, walk-short, last-cons}
+use Rattle.chains.proofs.Links.{stops, fails, link-bad, link-end, link-to}
 
--- what `last` gives, by what the first element says; `rest x` is what it gives from sector x on with one fewer allowed
+-- the walk's number, by what the first element says; `rest x` is the number from sector x on with one fewer allowed
 abbrev onLast : ℕ → ℕ → Link → (ℕ → ℕ) → ℕ
-onLast i n (end m) rest = i + 256 * (n - 1)
+onLast i n (end m) rest = i + 256 * n
 onLast i n (to x) rest = rest x
-onLast i n bad rest = 0
+onLast i n (bad w) rest = 0
 
 module _ (f : ℕ → ℕ) (S i : ℕ) where
-  last-link : (n : ℕ) → n ≢ 0 → onLast i n (link S i (f i)) (λ x. lastLeft (n - 1) (walk f S x (n - 1))) ≡ lastLeft n (walk f S i n)
-  unfolding walk
-  last-link zero h = absurd (h refl)
-  last-link (suc n) h = rw sub-one (go (link S i (f i)))
+  -- a chain does not come back, so that the walk from the next sector finds the same whether or not sector i counts as passed
+  same-left : Sector S i → Names S i (f i) → (n : ℕ) → lastLeft n (walk f S (f i) n) ≡ lastLeft n (walkOn f S (i ∷ []) (f i) n)
+  same-left s a n = go (walk f S (f i) n) refl
     where
-      one : (x : ℕ) (w : Walk) → ((ss : List ℕ) (m : ℕ) → w ≡ found ss m → Leads f S x ss m) → lastLeft n w ≡ lastLeft (suc n) (after i w)
-      one x (found ss m) q = rw (last-cons f S (q ss m refl) i) (omega arith)
-      one x broken q = refl
+      go : (w : Walk) → walk f S (f i) n ≡ w → lastLeft n w ≡ lastLeft n (walkOn f S (i ∷ []) (f i) n)
+      go (found ss m) e =
+          let p = walk-leads f S n (f i) ss m e in
+          rw (walk-on-finds f S (i ∷ []) (a .sector) p (no-return f S [] s a p (λ c. c .2)) n (walk-short f S n (f i) ss m e))
+      go (broken b) e = inner (walkOn f S (i ∷ []) (f i) n) refl
+        where
+          inner : (w : Walk) → walkOn f S (i ∷ []) (f i) n ≡ w → 0 ≡ lastLeft n w
+          inner (found ss m) q =
+              let r = walk-on-leads f S n (i ∷ []) (f i) ss m q in
+              absurd (let z : _≡_ {A = ℕ} 0 1 = cc (walk-finds f S (a .sector) (r .0) n (r .1)) in omega arith)
+          inner (broken d) q = refl
 
-      go : (l : Link) → onLast i (suc n) l (λ x. lastLeft n (walk f S x n)) ≡ lastLeft (suc n) (onLink i l (λ x. walk f S x n))
-      go (end m) = omega arith
-      go (to x) = one x (walk f S x n) (walk-leads f S n x)
-      go bad = refl
+  last-link : Sector S i → (n : ℕ) → n ≢ 0 → onLast i n (link S i (f i)) (λ x. lastLeft (n - 1) (walk f S x (n - 1))) ≡ lastLeft n (walk f S i n)
+  unfolding walkOn member
+  last-link s zero h = absurd (h refl)
+  last-link s (suc n) h = rw sub-one (go (view S i (f i)))
+    where
+      one : (w : Walk) → ((ss : List ℕ) (m : ℕ) → w ≡ found ss m → Leads f S (f i) ss m) → lastLeft n w ≡ lastLeft (suc n) (after i w)
+      one (found ss m) q = rw (last-cons f S (q ss m refl) i) (omega arith)
+      one (broken b) q = refl
+
+      go : {l : Link} → View S i (f i) l → onLast i (suc n) l (λ x. lastLeft n (walkOn f S [] x n)) ≡ lastLeft (suc n) (onLink [] i (past [] l) (λ x. walkOn f S (i ∷ []) x n))
+      go (v-end a) = omega arith
+      go (v-to a) = same-left s a n ∙ one (walkOn f S (i ∷ []) (f i) n) (λ ss m q. walk-on-leads f S n (i ∷ []) (f i) ss m q .0)
+      go (v-bad b) = refl
 
   -- none is allowed
   pub stop-none : (n : ℕ) → n ≡ 0 → 0 ≡ lastLeft n (walk f S i n)
-  unfolding walk
+  unfolding walkOn
   stop-none n e = rw e
 
-  module _ (n x : ℕ) (least : 4 ≤ S) (some : n ≢ 0) (e : x ≡ f i) where
+  module _ (n x : ℕ) (s : Sector S i) (some : n ≢ 0) (e : x ≡ f i) where
     by : {r : ℕ} → r ≡ onLast i n (link S i x) (λ y. lastLeft (n - 1) (walk f S y (n - 1))) → r ≡ lastLeft n (walk f S i n)
-    by q = q ∙ ap (λ (y : ℕ). onLast i n (link S i y) (λ z. lastLeft (n - 1) (walk f S z (n - 1)))) e ∙ last-link n some
+    by q = q ∙ ap (λ (y : ℕ). onLast i n (link S i y) (λ z. lastLeft (n - 1) (walk f S z (n - 1)))) e ∙ last-link s n some
 
-    -- it meets 0, or a number above S - 1
-    pub stop-bad : x ≢ i → (x ≡ 0 → ⊥) → S - 1 < x → 0 ≡ lastLeft n (walk f S i n)
-    unfolding link
-    stop-bad d z h = by (simp (ne-eqb x i d, ne-eqb x (S - 1) (omega arith), ne-eqb x (S - 2) (omega arith), le-leb 1 x (omega arith), lt-leb x (S - 3) (omega arith)))
+    -- the element is bad, ends the chain, or names the next sector
+    pub stop-bad : fails S i x ≡ true → 0 ≡ lastLeft n (walk f S i n)
+    stop-bad h = by (rw (link-bad S i x s h .1))
 
-    pub stop-zero : x ≢ i → x ≡ 0 → 0 ≡ lastLeft n (walk f S i n)
-    unfolding link
-    stop-zero d z = by (simp (ne-eqb x i d, ne-eqb x (S - 1) (omega arith), ne-eqb x (S - 2) (omega arith), lt-leb 1 x (omega arith)))
+    pub stop-end : stops S i x ≡ true → fails S i x ≡ false → i + 256 * n ≡ lastLeft n (walk f S i n)
+    stop-end h g = by (rw (link-end S i x s h g .1))
 
-    -- it ends
-    pub stop-fresh : x ≡ i → i + 256 * (n - 1) ≡ lastLeft n (walk f S i n)
-    unfolding link
-    stop-fresh d = by (simp (eq-eqb x i d))
+    pub goes-on : stops S i x ≡ false → {r : ℕ} → r ≡ lastLeft (n - 1) (walk f S x (n - 1)) → r ≡ lastLeft n (walk f S i n)
+    goes-on h q = by (q ∙ rw (link-to S i x s h))
 
-    pub stop-end : x ≢ i → S - 3 < x → x ≤ S - 1 → i + 256 * (n - 1) ≡ lastLeft n (walk f S i n)
-    unfolding link
-    stop-end d h g = elim (ℕ-discrete x (S - 1)) [
-      | yes q ↦ by (simp (ne-eqb x i d, eq-eqb x (S - 1) q))
-      | no q ↦ by (simp (ne-eqb x i d, ne-eqb x (S - 1) q, eq-eqb x (S - 2) (omega arith)))
-    ]
+-- the same of the walk that looks at no sector twice
+module _ (f : ℕ → ℕ) (S k n : ℕ) (owner : List ℕ) (i : ℕ) where
+  module _ (free : getD owner i 0 ≡ 0) where
+    pub follow-none : n ≡ 0 → stop 0 owner ≡ follow f S k n owner i
+    unfolding follow
+    follow-none e = rw (e, free)
 
-    -- it goes on
-    pub goes-on : x ≢ i → x ≢ 0 → x ≤ S - 3 → {r : ℕ} → r ≡ lastLeft (n - 1) (walk f S x (n - 1)) → r ≡ lastLeft n (walk f S i n)
-    unfolding link
-    goes-on d z h q = by (q ∙ simp (ne-eqb x i d, ne-eqb x (S - 1) (omega arith), ne-eqb x (S - 2) (omega arith), le-leb 1 x (omega arith), le-leb x (S - 3) h))
+    module _ (x : ℕ) (s : Sector S i) (some : n ≢ 0) (e : x ≡ f i) where
+      unfolded : byLink (link S i x) (n - 1) (set owner i k) (λ y. follow f S k (n - 1) (set owner i k) y) ≡ follow f S k n owner i
+      unfolding follow
+      unfolded = go n some
+        where
+          go : (n : ℕ) → n ≢ 0 → byLink (link S i x) (n - 1) (set owner i k) (λ y. follow f S k (n - 1) (set owner i k) y) ≡ follow f S k n owner i
+          go zero h = absurd (h refl)
+          go (suc l) h = rw (sub-one, free, e)
 
--- the tests of the step: whether the walk stops at the element x of sector i, and whether it stops broken
-abbrev pub stops : ℕ → ℕ → ℕ → Bool
-stops S i x = (eqb x i || eqb x 0) || ltb (S - 3) x
+      pub follow-bad : fails S i x ≡ true → stop 0 (set owner i k) ≡ follow f S k n owner i
+      follow-bad h = rw (← unfolded, link-bad S i x s h .1)
 
-abbrev pub fails : ℕ → ℕ → ℕ → Bool
-fails S i x = not (eqb x i) && (eqb x 0 || ltb (S - 1) x)
+      pub follow-end : stops S i x ≡ true → fails S i x ≡ false → stop (n - 1 + 1) (set owner i k) ≡ follow f S k n owner i
+      follow-end h g = rw (← unfolded, link-end S i x s h g .1, add-one)
 
-module _ (f : ℕ → ℕ) (S i n x : ℕ) (least : 4 ≤ S) (some : n ≢ 0) (e : x ≡ f i) where
-  pub tested-bad : fails S i x ≡ true → 0 ≡ lastLeft n (walk f S i n)
-  tested-bad = go (eqb x i) refl (eqb x 0) refl (ltb (S - 1) x) refl
-    where
-      go : (a : Bool) → eqb x i ≡ a → (b : Bool) → eqb x 0 ≡ b → (d : Bool) → ltb (S - 1) x ≡ d → (not a && (b || d)) ≡ true → 0 ≡ lastLeft n (walk f S i n)
-      go true p b q d r h = absurd (false≢true h)
-      go false p true q d r h = stop-zero f S i n x least some e (eqb-false x i p) (eqb-true x 0 q)
-      go false p false q true r h = stop-bad f S i n x least some e (eqb-false x i p) (eqb-false x 0 q) (ltb-true (S - 1) x r)
-      go false p false q false r h = absurd (false≢true h)
+      pub follow-on : stops S i x ≡ false → follow f S k (n - 1) (set owner i k) x ≡ follow f S k n owner i
+      follow-on h = rw (← unfolded, link-to S i x s h)
 
-  pub tested-end : stops S i x ≡ true → fails S i x ≡ false → i + 256 * (n - 1) ≡ lastLeft n (walk f S i n)
-  tested-end = go (eqb x i) refl (eqb x 0) refl (ltb (S - 3) x) refl (ltb (S - 1) x) refl
-    where
-      go : (a : Bool) → eqb x i ≡ a → (b : Bool) → eqb x 0 ≡ b → (d : Bool) → ltb (S - 3) x ≡ d → (g : Bool) → ltb (S - 1) x ≡ g → ((a || b) || d) ≡ true → (not a && (b || g)) ≡ false → i + 256 * (n - 1) ≡ lastLeft n (walk f S i n)
-      go true p b q d r g t h k = stop-fresh f S i n x least some e (eqb-true x i p)
-      go false p true q d r g t h k = absurd (true≢false k)
-      go false p false q false r g t h k = absurd (false≢true h)
-      go false p false q true r true t h k = absurd (true≢false k)
-      go false p false q true r false t h k = stop-end f S i n x least some e (eqb-false x i p) (ltb-true (S - 3) x r) (ltb-false (S - 1) x t)
+  module _ (met : getD owner i 0 ≢ 0) where
+    unfolded-met : stop (again k (getD owner i 0) n) owner ≡ follow f S k n owner i
+    unfolding follow
+    unfolded-met = go n (getD owner i 0) refl met
+      where
+        go : (n o : ℕ) → getD owner i 0 ≡ o → o ≢ 0 → stop (again k o n) owner ≡ follow f S k n owner i
+        go n zero e h = absurd (h refl)
+        go zero (suc o) e h = rw e
+        go (suc n) (suc o) e h = rw e
 
-pub tested-on : (S i x : ℕ) → stops S i x ≡ false → (x ≢ i) × (x ≢ 0) × (x ≤ S - 3)
-tested-on S i x = go (eqb x i) refl (eqb x 0) refl (ltb (S - 3) x) refl
-  where
-    go : (a : Bool) → eqb x i ≡ a → (b : Bool) → eqb x 0 ≡ b → (d : Bool) → ltb (S - 3) x ≡ d → ((a || b) || d) ≡ false → (x ≢ i) × (x ≢ 0) × (x ≤ S - 3)
-    go true p b q d r h = absurd (true≢false h)
-    go false p true q d r h = absurd (true≢false h)
-    go false p false q true r h = absurd (true≢false h)
-    go false p false q false r h = (eqb-false x i p, eqb-false x 0 q, ltb-false (S - 3) x r)
+    pub follow-back : getD owner i 0 ≡ k → stop 0 owner ≡ follow f S k n owner i
+    follow-back e = rw (← unfolded-met, eq-eqb (getD owner i 0) k e)
 
--- ---- the whole walk, from what `last` gives
-
-said : {S i x m : ℕ} → Sector S i → Ends S i x m → m ≡ markSaid S i x
-said {S} {i} {x} s (fresh e) = rw (eq-eqb x i e)
-said {S} {i} {x} s (used e) = rw (ne-eqb x i (omega arith), eq-eqb x (S - 1) e)
-said {S} {i} {x} s (blocked e) = rw (ne-eqb x i (omega arith), ne-eqb x (S - 1) (omega arith))
-
--- the number r, given with n sectors allowed, tells of the walk w where it ended and how
-pub record Taken (f : ℕ → ℕ) (S n r : ℕ) (w : Walk) : Type 0 where
-  pub sector : Sector S (r % 256)
-  pub left : r / 256 ≤ n
-  pub tells : W.End (r % 256) (n - r / 256) (markSaid S (r % 256) (f (r % 256))) ≡ told w
-
-module _ (f : ℕ → ℕ) (S i n r : ℕ) (s : Sector S i) (most : S ≤ 255) (e : r ≡ lastLeft n (walk f S i n)) where
-  pub left-none : r ≡ 0 → W.Broken ≡ told (walk f S i n)
-  left-none z = go (walk f S i n) (walk-leads f S n i) (sym e ∙ z)
-    where
-      go : (w : Walk) → ((ss : List ℕ) (m : ℕ) → w ≡ found ss m → Leads f S i ss m) → lastLeft n w ≡ 0 → W.Broken ≡ told w
-      go (found ss m) q h = let p = q ss m refl in absurd (omega (arith, leads-sectors f S s p (lastOf ss) (last-in f S p) .low))
-      go broken q h = refl
-
-  pub left-some : r ≢ 0 → Taken f S n r (walk f S i n)
-  left-some z = go (walk f S i n) (walk-leads f S n i) (walk-short f S n i) e
-    where
-      go : (w : Walk) → ((ss : List ℕ) (m : ℕ) → w ≡ found ss m → Leads f S i ss m) → ((ss : List ℕ) (m : ℕ) → w ≡ found ss m → length ss ≤ n) → r ≡ lastLeft n w → Taken f S n r w
-      go (found ss m) q k h =
-          let p = q ss m refl in
-          let g = leads-sectors f S s p (lastOf ss) (last-in f S p) in
-          let a : r % 256 ≡ lastOf ss = omega arith in
-          let b : n - r / 256 ≡ length ss = omega (arith, k ss m refl) in
-          record { sector = rw a g; left = omega (arith, k ss m refl); tells = rw (a, b, ← said g (last-ends f S p)) }
-      go broken q k h = absurd (z h)
+    pub follow-joins : getD owner i 0 ≢ k → stop (n + 1) owner ≡ follow f S k n owner i
+    follow-joins d = rw (← unfolded-met, ne-eqb (getD owner i 0) k d, add-one)

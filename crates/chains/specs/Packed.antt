@@ -3,14 +3,12 @@
 use mathlib.Core.Bool.{cond}
 use mathlib.Core.List.{List}
 use mathlib.Core.Path.{_≡_}
-use Prim.Native.Nat.{ℕ, _+_, _-_, _*_, _%_, _≤_}
+use Prim.Native.Nat.{ℕ, _+_, _-_, _*_, _/_, _%_, _≤_}
 use lib.Dec.{eqb}
 use lib.ListN.{length}
 use Rattle.bits.specs.Bits.{field}
-use Rattle.chains.specs.Chain.{Walk, found, broken, walk, lastOf}
+use Rattle.chains.specs.Chain.{Walk, found, broken, lastOf}
 use Rattle.chains.specs.declared.Table.{Table}
-use Rattle.chains.specs.declared.Walked.{Walked}
-use Rattle.chains.specs.declared.Walked.the-variants as W
 
 -- the bit where the element of sector i stands, of p bits, in a table that starts at bit first: SCT(1) is the first
 abbrev pub elementAt : ℕ → ℕ → ℕ → ℕ
@@ -30,21 +28,25 @@ pub record Inside (l : List ℕ) (t : Table) : Type 0 where
   pub whole : t .first % 8 ≡ 0
   pub within : t .first + t .psi * (t .sectors - 3) ≤ 8 * length l
 
--- the last sector, the number of sectors, and the mark
-abbrev pub told : Walk → Walked
-told (found ss m) = W.End (lastOf ss) (length ss) m
-told broken = W.Broken
-
-abbrev pub walked : List ℕ → Table → ℕ → ℕ → Walked
-walked l t i n = told (walk (packed l (t .first) (t .psi)) (t .sectors) i n)
-
 abbrev pub tabled : ℕ → ℕ → ℕ → Table
 tabled first psi sectors = record { first = first; psi = psi; sectors = sectors }
 
--- the last sector, and 256 for each of n allowed sectors that was not taken; 0 where the chain is broken
+-- the last sector, and 256 for each of n allowed sectors that was still allowed where it was met, the last included; 0 where the chain is broken
 abbrev pub lastLeft : ℕ → Walk → ℕ
-lastLeft n (found ss m) = lastOf ss + 256 * (n - length ss)
-lastLeft n broken = 0
+lastLeft n (found ss m) = lastOf ss + 256 * (n + 1 - length ss)
+lastLeft n (broken b) = 0
+
+-- of that number r, not 0: the last sector
+abbrev pub lastTold : ℕ → ℕ
+lastTold r = r % 256
+
+-- how many sectors are still allowed after it
+abbrev pub leftTold : ℕ → ℕ
+leftTold r = r / 256 - 1
+
+-- and, of n allowed before, the number of the chain's sectors
+abbrev pub countTold : ℕ → ℕ → ℕ
+countTold r n = n - leftTold r
 
 -- the mark of the element x, which ends a chain at sector i
 abbrev pub markSaid : ℕ → ℕ → ℕ → ℕ

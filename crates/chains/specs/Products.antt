@@ -4,8 +4,8 @@ use mathlib.Core.Logic.{_≢_}
 use mathlib.Core.Bool.{Bool, true, false, _&&_, _||_}
 use mathlib.Core.List.{List, [], _∷_, _++_}
 use Prim.Native.Nat.{ℕ, zero, suc, _-_, _<_}
-use lib.Dec.{eqb}
-use Rattle.chains.specs.Chain.{Chain, NoChain, Common, In, lastOf, Walk, found, broken, walk}
+use lib.ListN.{length}
+use Rattle.chains.specs.Chain.{Chain, NoChain, Common, In, lastOf, Walk, found, broken, walk, member}
 
 -- ---- said plainly
 
@@ -49,24 +49,20 @@ chainAt f S j = walk f S j (S - 3)
 
 abbrev pub sectorsOf : Walk → List ℕ
 sectorsOf (found ss m) = ss
-sectorsOf broken = []
+sectorsOf (broken b) = []
 
 -- fresh 0, used 1, blocked 2
 abbrev pub markOf : Walk → ℕ
 markOf (found ss m) = m
-markOf broken = 0
+markOf (broken b) = 0
 
 abbrev pub isBroken : Walk → Bool
 isBroken (found ss m) = false
-isBroken broken = true
+isBroken (broken b) = true
 
 -- 10 at entry j
 unfoldable pub brokenAt : (ℕ → Bool) → (ℕ → ℕ) → ℕ → ℕ → Bool
 brokenAt p f S j = p j && isBroken (chainAt f S j)
-
-unfoldable pub member : ℕ → List ℕ → Bool
-member x [] = false
-member x (y ∷ ys) = eqb x y || member x ys
 
 unfoldable pub meet : List ℕ → List ℕ → Bool
 meet [] ys = false
@@ -89,11 +85,15 @@ when false n = 0
 
 abbrev pub lastIn : Walk → ℕ
 lastIn (found ss m) = lastOf ss
-lastIn broken = 0
+lastIn (broken b) = 0
 
 -- the last sector of product j's chain; 0 where j is no product, or its chain broken
 unfoldable pub lastAt : (ℕ → Bool) → (ℕ → ℕ) → ℕ → ℕ → ℕ
 lastAt p f S j = when (p j) (lastIn (chainAt f S j))
+
+-- and the number of its sectors
+unfoldable pub countAt : (ℕ → Bool) → (ℕ → ℕ) → ℕ → ℕ → ℕ
+countAt p f S j = when (p j) (length (sectorsOf (chainAt f S j)))
 
 -- ---- all of them
 

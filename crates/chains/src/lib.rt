@@ -1,22 +1,18 @@
 // The walk of a sector chain over a packed table that stands anywhere in a slice.
 ghost use mathlib.Core.Path.{_≡_};
-ghost use Prim.Native.Nat.{ℕ, _<_, _≤_};
+ghost use Prim.Native.Nat.{ℕ, _*_, _/_, _%_, _<_, _≤_};
+ghost use lib.ListN.{length};
 ghost use Rattle.bits.specs.Bits.{store};
-ghost use Rattle.chains.specs.Chain.{Sector, walk, sectorFrom};
+ghost use Rattle.chains.specs.Chain.{Sector, walk};
+ghost use Rattle.chains.specs.Owners.{stop, follow};
 ghost use Rattle.chains.specs.Psi.{Ψ, tableBytes};
-ghost use Rattle.chains.specs.Packed.{Inside, elementAt, packed, walked, tabled, lastLeft, markSaid};
+ghost use Rattle.chains.specs.Packed.{Inside, elementAt, packed, tabled, lastLeft, lastTold, leftTold, markSaid};
 
 // A chain table: the bit where it starts, the bits of an element, and the number of sectors.
 pub struct Table {
     pub first: usize,
     pub psi: usize,
     pub sectors: usize,
-}
-
-// Where a chain ends, after how many sectors, and with which mark (fresh 0, used 1, blocked 2).
-pub enum Walked {
-    End { last: usize, count: usize, mark: u8 },
-    Broken,
 }
 
 // Ψ, from the leading zeros of s - 1.
@@ -48,7 +44,7 @@ pub fn element(l: &[u8], t: Table, i: usize) -> usize
     if t.psi == 8 {
         return l[t.first / 8 + (i - 1)] as usize;
     }
-    bits::pair(l, t.first + t.psi * (i - 1), t.psi) as usize
+    bits::ending(l, t.first + t.psi * i, t.psi) as usize
 }
 
 // Stores the low digits of x as the element of sector i, and not a bit beside it.
@@ -60,13 +56,13 @@ pub fn put_element(l: &mut [u8], t: Table, i: usize, x: usize)
     bits::put(l, t.first + t.psi * (i - 1), t.psi, x as u64)
 }
 
-// The walk from sector i, with `allowed` sectors still allowed: the last sector, and 256 for each sector then still allowed; 0 where the
-// chain is broken. One test ends it; which end it is, is looked at afterwards.
-pub fn last(l: &&[u8], first: usize, psi: usize, sectors: usize, i: usize, allowed: usize) -> usize
+// The walk from sector i, with 256 in `allowed` for each sector still allowed: the last sector, and 256 for each that was allowed where it was met;
+// 0 where the chain is broken. One test ends it; which end it is, is looked at afterwards. It counts in 256s, so that one number is kept and not two.
+pub fn walk(l: &&[u8], first: usize, psi: usize, sectors: usize, i: usize, allowed: usize) -> usize
     requires { ⌜ Inside (now (now l)) (tabled first psi sectors) ⌝ }
     requires { ⌜ Sector sectors i ⌝ }
-    requires { ⌜ allowed < 256 ⌝ }
-    ensures { λ (r : ℕ). ⌜ r ≡ lastLeft allowed (walk (packed (now (now (l .entry))) first psi) sectors i allowed) ⌝ }
+    requires { ⌜ (allowed < 65536) × (allowed % 256 ≡ 0) ⌝ }
+    ensures { λ (r : ℕ). ⌜ r ≡ lastLeft (allowed / 256) (walk (packed (now (now (l .entry))) first psi) sectors i (allowed / 256)) ⌝ }
 {
     if allowed == 0 {
         return 0;
@@ -81,30 +77,55 @@ pub fn last(l: &&[u8], first: usize, psi: usize, sectors: usize, i: usize, allow
         if (x != i) & ((x == 0) | (sectors - 1 < x)) {
             return 0;
         }
-        return i + 256 * (allowed - 1);
+        return i + allowed;
     }
-    last(l, first, psi, sectors, x, allowed - 1)
+    walk(l, first, psi, sectors, x, allowed - 256)
 }
 
-// The sector k places on from sector i, counted from 0; 0 where the elements do not lead so far.
-pub fn sector(l: &&[u8], first: usize, psi: usize, sectors: usize, i: usize, k: usize) -> usize
-    requires { ⌜ Inside (now (now l)) (tabled first psi sectors) ⌝ }
-    requires { ⌜ Sector sectors i ⌝ }
-    ensures { λ (r : ℕ). ⌜ r ≡ sectorFrom (packed (now (now (l .entry))) first psi) sectors i k ⌝ }
+// The walk of entry k that looks at no sector twice, with `left` elements still allowed: 0 where the chain is broken, else one more than the
+// elements then still allowed. Each sector that it meets first gets k for its owner.
+pub fn follow(l: &[u8], t: Table, k: usize, left: usize, owner: &mut [u8]) -> usize
+    requires { ⌜ Inside (now l) t ⌝ }
+    requires { ⌜ Sector (t .sectors) k ⌝ }
+    requires { ⌜ (left < 256) × (length (now owner) ≡ 256) ⌝ }
+    ensures { λ r. ⌜ stop r (now (owner .exit)) ≡ follow (packed (now (l .entry)) (t .first) (t .psi)) (t .sectors) k left (now (owner .entry)) k ⌝ }
 {
-    if k == 0 {
-        return i;
+    let mut i = k;
+    let mut n = left;
+    while owner[i] == 0 {
+        if n == 0 {
+            return 0;
+        }
+        n -= 1;
+        owner[i] = k as u8;
+        let x = element(l, t, i);
+        if (x == i) | (x == 0) | (t.sectors - 3 < x) {
+            if (x != i) & ((x == 0) | (t.sectors - 1 < x)) {
+                return 0;
+            }
+            return n + 1;
+        }
+        i = x;
     }
-    let t = Table {
-        first: first,
-        psi: psi,
-        sectors: sectors,
-    };
-    let x = element(*l, t, i);
-    if (x == i) | (x == 0) | (sectors - 3 < x) {
+    if owner[i] == k as u8 {
         return 0;
     }
-    sector(l, first, psi, sectors, x, k - 1)
+    n + 1
+}
+
+// The last sector of a chain, from what the walk told of it, not 0.
+pub fn last(told: usize) -> usize
+    ensures { λ r. ⌜ r ≡ lastTold told ⌝ }
+{
+    told % 256
+}
+
+// 256 for each sector still allowed after it.
+pub fn left(told: usize) -> usize
+    requires { ⌜ 256 ≤ told ⌝ }
+    ensures { λ r. ⌜ r ≡ 256 * leftTold told ⌝ }
+{
+    told - told % 256 - 256
 }
 
 // The mark of the element x, which ends a chain at sector i.
@@ -116,23 +137,4 @@ pub fn mark(s: usize, i: usize, x: usize) -> u8
         return 0;
     }
     if x == s - 1 { 1 } else { 2 }
-}
-
-// What the walk from sector i finds, with `allowed` sectors allowed.
-pub fn walk(l: &[u8], t: Table, i: usize, allowed: usize) -> Walked
-    requires { ⌜ Inside (now l) t ⌝ }
-    requires { ⌜ Sector (t .sectors) i ⌝ }
-    requires { ⌜ allowed < 256 ⌝ }
-    ensures { λ r. ⌜ r ≡ walked (now (l .entry)) t i allowed ⌝ }
-{
-    let r = last(&l, t.first, t.psi, t.sectors, i, allowed);
-    if r == 0 {
-        return Walked::Broken;
-    }
-    let end = r % 256;
-    Walked::End {
-        last: end,
-        count: allowed - r / 256,
-        mark: mark(t.sectors, end, element(l, t, end)),
-    }
 }

@@ -1,6 +1,9 @@
 // Image files: one is read whole, and one is written beside its place and then put there.
 use crate::LARGEST;
-use words::NONE;
+use crate::between;
+use text::prints;
+use text::words;
+use text::words::NONE;
 
 // Reads a file that is shorter than the buffer, and gives its size; NONE where it can't be read or is not shorter.
 pub(crate) fn load(path: &[u8], into: &mut [u8]) -> usize {
@@ -36,7 +39,7 @@ fn ended(got: isize, n: usize) -> usize {
 
 // Writes a new file beside the path, which nothing may stand at, and renames it; where that fails the path is as it was.
 fn save(path: &[u8], image: &[u8]) -> bool {
-    let mut space = [0u8; 4096];
+    let mut space = io::buffer();
     let name: &mut [u8] = &mut space;
     let dot = text::put(name, 0, path);
     let end = words::least(text::put(name, dot, b".new"), name.len());
@@ -64,15 +67,17 @@ fn save_by(name: &[u8], path: &[u8], image: &[u8]) -> bool {
     false
 }
 
-// Answers the desk's commands on files, each with one word after it that names the file.
-pub(crate) fn answer(word: &[u8], path: &[u8], image: &[u8]) {
+// Answers the desk's commands on files, each with one word after it that names the file; the image has so many bytes.
+pub(crate) fn answer(word: &[u8], path: &[u8], image: &[u8], size: usize) {
     if (words::first(path) < path.len()) | (path.len() == 0) {
         prints::unknown();
         return;
     }
+    let n = words::least(size, image.len());
+    let held = &image[0..n];
     match words::place(word, 1, b"save * touched *") {
-        0 => save_to(path, image),
-        1 => touched_since(path, image),
+        0 => save_to(path, held),
+        1 => touched_since(path, held),
         _ => prints::unknown(),
     }
 }
@@ -87,11 +92,11 @@ fn save_to(path: &[u8], image: &[u8]) {
 
 // The file's image is the one before.
 fn touched_since(path: &[u8], image: &[u8]) {
-    let mut before = [0u8; 65536];
+    let mut before = io::large_buffer();
     let size = load(path, &mut before);
     if LARGEST < size {
         prints::say(b"not read\n");
         return;
     }
-    looks::touched(&before[0..size], image);
+    between::touched(&before[0..size], image);
 }

@@ -1,81 +1,91 @@
 // Commands that only a test program knows: an image made by parts, and calls on bytes.
-use crate::LARGEST;
 use crate::State;
+use crate::between;
+use crate::decodes;
+use crate::lends;
 use text::Number;
-use words::hex;
+use text::hex;
+use text::prints;
+use text::words;
+use text::words::MOST;
+use text::words::NONE;
 
-// `rest` is what stands after the word and a blank.
+// Answers a command; `rest` is what stands after its word and a blank.
 pub(crate) fn answer(
     word: &[u8],
     count: usize,
-    list: &[u64; 302],
+    list: &[u64; MOST],
     rest: &[u8],
     image: &mut [u8],
     kept: &mut [u8],
     s: State,
 ) -> State {
-    let n = words::least(s.image, image.len());
     match words::place(word, count, b"image 1 keep 0 touched 0 at *") {
-        0 => fresh(list[0], image, s),
-        1 => keep(&image[0..n], kept, s),
-        2 => touched(&image[0..n], kept, s),
-        3 => place(rest, &mut image[0..n], s),
+        0 => fresh(list[0] as usize, image, s),
+        1 => keep(image, kept, s),
+        2 => touched(image, kept, s),
+        3 => place(rest, image, s),
         _ => other(word, count, list, rest, s),
     }
 }
 
 // The image becomes so many zeros.
-fn fresh(size: u64, image: &mut [u8], s: State) -> State {
-    if (LARGEST as u64) < size {
+fn fresh(size: usize, image: &mut [u8], s: State) -> State {
+    if image.len() <= size {
         prints::unknown();
         return s;
     }
-    let n = words::least(size as usize, image.len());
-    looks::fill(&mut image[0..n], 0);
-    prints::number(n as u64);
+    lends::fill(&mut image[0..size], 0);
+    prints::number(size as u64);
     prints::end();
     State {
-        image: n,
+        image: size,
         kept: s.kept,
+        all: s.all,
     }
 }
 
 // The image is copied to the kept image.
 fn keep(image: &[u8], kept: &mut [u8], s: State) -> State {
-    let n = words::least(image.len(), kept.len());
-    let mut i = 0;
-    while i < n {
-        kept[i] = image[i];
-        i += 1;
-    }
+    let n = words::least(s.image, words::least(image.len(), kept.len()));
+    bytes::copy(&image[0..n], kept);
     prints::say(b"ok\n");
     State {
         image: s.image,
         kept: n,
+        all: s.all,
     }
 }
 
 // The kept image is the one before.
 fn touched(image: &[u8], kept: &[u8], s: State) -> State {
-    let n = words::least(s.kept, kept.len());
-    looks::touched(&kept[0..n], image);
+    let m = words::least(s.kept, kept.len());
+    let n = words::least(s.image, image.len());
+    between::touched(&kept[0..m], &image[0..n]);
     s
 }
 
-// Bytes overwrite the image from a place on, if they lie within it.
+// Bytes overwrite the image from a place on.
 fn place(rest: &[u8], image: &mut [u8], s: State) -> State {
     let end = words::first(rest);
-    let Number::Is(p) = text::decimal(&rest[0..end]) else {
-        prints::unknown();
-        return s;
-    };
     let start = words::after(rest, end);
-    overwrite(p as usize, &rest[start..], image);
+    let n = words::least(s.image, image.len());
+    overwrite(&rest[0..end], &rest[start..], &mut image[0..n]);
     s
 }
 
-fn overwrite(from: usize, word: &[u8], image: &mut [u8]) {
+// The place that a word names: NONE, which no image has, where it is no number.
+fn number(word: &[u8]) -> usize {
+    let Number::Is(p) = text::decimal(word) else {
+        return NONE;
+    };
+    p as usize
+}
+
+// The bytes must lie within the image; else the line is not understood.
+fn overwrite(at: &[u8], word: &[u8], image: &mut [u8]) {
     let n = hex::count(word);
+    let from = number(at);
     if image.len() < n {
         prints::unknown();
         return;
@@ -88,8 +98,8 @@ fn overwrite(from: usize, word: &[u8], image: &mut [u8]) {
     prints::say(b"ok\n");
 }
 
-fn other(word: &[u8], count: usize, list: &[u64; 302], rest: &[u8], s: State) -> State {
-    if !codes::decode(word, count, list, rest) {
+fn other(word: &[u8], count: usize, list: &[u64; MOST], rest: &[u8], s: State) -> State {
+    if !decodes::decode(word, count, list, rest) {
         prints::unknown();
     }
     s

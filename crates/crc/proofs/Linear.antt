@@ -2,13 +2,13 @@
 -- one computed test. Assumes nothing.
 use mathlib.Core.Path.{_≡_, refl, sym, ap, ap₂, _∙_}
 use mathlib.Core.Bool.{Bool, true, false, _&&_}
-use Prim.Native.Nat.{ℕ, zero, suc, _+_, _-_, _*_, _/_, _%_, _^_, _<_, _≤_}
+use Prim.Native.Nat.{ℕ, zero, suc, _+_, _-_, _*_, _/_, _%_, _^_, _<_}
 use native.Mathlib.Nat.{pow-succ'}
 use native.Mathlib.Omega.{arith}
 use native.Mathlib.Decide.{decLt}
 use lib.Dec.{eqb, T, eqb→eq}
 use lib.Pow.{pow-pos}
-use lib.Bits.{bitXor, xor-comm, xor-self, xor-block, xor-mod, xor-shr, xor-shifted, xor-zero-l}
+use lib.Bits.{bitXor, xor-comm, xor-self, xor-block, xor-mod, xor-shr, xor-shifted}
 use Rattle.crc.specs.Crc.{clocks}
 use Rattle.crc.proofs.Step.{assoc, clocks-sum}
 

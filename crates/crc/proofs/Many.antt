@@ -1,11 +1,11 @@
--- The shifts of the code, and that they are 64, 32, 16 and 8 clocks. Assumes nothing.
-use mathlib.Core.Path.{_≡_, refl, sym, _∙_}
-use Prim.Native.Nat.{ℕ, _+_, _*_, _/_, _%_, _^_, _<_}
-use native.Mathlib.Nat.{lt-of-lt-of-le}
+-- The shifts of the code, and that they are 64 clocks; and fewer clocks by these. Assumes nothing.
+use mathlib.Core.Path.{_≡_, sym, ap, _∙_}
+use Prim.Native.Nat.{ℕ, zero, suc, _+_, _*_, _/_, _%_, _^_, _<_, _≤_}
+use native.Mathlib.Nat.{lt-of-lt-of-le, mod-eq-of-lt, mul-lt-mul-of-pos-right, pow-succ', zero-add, suc-add}
 use native.Mathlib.Omega.{arith}
 use lib.Dec.{T}
-use lib.Bits.{bitXor, xor-lt}
-use lib.Pow.{pow-mono}
+use lib.Bits.{bitXor, xor-lt, xor-zero-l}
+use lib.Pow.{pow-add, pow-mono, pow-pos}
 use Rattle.crc.specs.Crc.{clock, clocks}
 use Rattle.crc.proofs.Step.{clocks-in, clocks-lt}
 use Rattle.crc.proofs.Linear.{Linear, left, right, plus, then, same, lefts, rights, agrees, agree, clocked}
@@ -36,87 +36,75 @@ thrice-linear a b c = plus (twice a b) (left c) (twice-linear a b) (lefts c)
 top-linear : Linear top
 top-linear = plus (λ q. bitXor (right 48 q) (right 53 q)) (right 60) (plus (right 48) (right 53) (rights 48) (rights 53)) (rights 60)
 
--- ---- the four shapes
+-- ---- 64 clocks
 
-abbrev pub shape64 : ℕ → ℕ
-shape64 x = top (thrice 4 11 16 (thrice 8 22 32 (twice 16 44 (once 32 x))))
+abbrev pub shape : ℕ → ℕ
+shape x = top (thrice 4 11 16 (thrice 8 22 32 (twice 16 44 (once 32 x))))
 
-abbrev pub shape32 : ℕ → ℕ
-shape32 x = top (thrice 4 11 16 (twice 8 22 (once 16 (left 32 x))))
-
-abbrev shape16-of : ℕ → ℕ
-shape16-of x = bitXor (once 4 (once 8 x)) (left 11 x)
-
-abbrev pub shape16 : ℕ → ℕ
-shape16 x = top (shape16-of (left 48 x))
-
-abbrev shape8-of : ℕ → ℕ
-shape8-of y = once 4 y
-
-abbrev pub shape8 : ℕ → ℕ
-shape8 x = bitXor (bitXor (bitXor (right 8 x) (right 48 (shape8-of (left 56 x)))) (right 53 (shape8-of (left 56 x)))) (right 60 (shape8-of (left 56 x)))
-
-linear64 : Linear shape64
-linear64 =
+linear : Linear shape
+linear =
     then (λ x. thrice 4 11 16 (thrice 8 22 32 (twice 16 44 (once 32 x)))) top
     (then (λ x. thrice 8 22 32 (twice 16 44 (once 32 x))) (thrice 4 11 16)
     (then (λ x. twice 16 44 (once 32 x)) (thrice 8 22 32)
     (then (once 32) (twice 16 44) (once-linear 32) (twice-linear 16 44)) (thrice-linear 8 22 32)) (thrice-linear 4 11 16)) top-linear
 
-linear32 : Linear shape32
-linear32 =
-    then (λ x. thrice 4 11 16 (twice 8 22 (once 16 (left 32 x)))) top
-    (then (λ x. twice 8 22 (once 16 (left 32 x))) (thrice 4 11 16)
-    (then (λ x. once 16 (left 32 x)) (twice 8 22)
-    (then (left 32) (once 16) (lefts 32) (once-linear 16)) (twice-linear 8 22)) (thrice-linear 4 11 16)) top-linear
+-- the test at each power of two
+test : T (agrees 64 shape (clocks 64 0))
+unfolding clocks clock
+test = tt
 
-linear16 : Linear shape16
-linear16 =
-    then (λ x. shape16-of (left 48 x)) top
-    (then (left 48) shape16-of (lefts 48)
-    (plus (λ x. once 4 (once 8 x)) (left 11) (then (once 8) (once 4) (once-linear 8) (once-linear 4)) (lefts 11))) top-linear
+-- data that comes to the register 0 is the register
+from-zero : (n b : ℕ) → b < 2 ^ n → clocks n b 0 ≡ clocks n 0 b
+from-zero n b h = clocks-in n b 0 h ∙ ap (clocks n 0) (xor-zero-l b)
+
+pub clocked-law : (x : ℕ) → x < 2 ^ 64 → (shape x ≡ clocks 64 x 0) × (shape x < 2 ^ 16)
+clocked-law x h =
+    let e : shape x ≡ clocks 64 x 0 = agree 64 shape (clocks 64 0) linear (clocked 64) test x h ∙ sym (from-zero 64 x h) in
+    (e, rw e (clocks-lt 64 x 0 (omega arith)))
+
+-- ---- fewer
+
+even : (y : ℕ) → clock (y * 2) 0 ≡ y
+unfolding clock
+even y =
+    let p : y * 2 % 2 ≡ 0 = omega arith in
+    let q : y * 2 / 2 ≡ y = omega arith in
+    rw (p, q)
+
+-- zeros are shifted out first
+zeros : (k m x : ℕ) → clocks (k + m) 0 (x * 2 ^ k) ≡ clocks m 0 x
+unfolding clocks
+zeros zero m x = let e : x * 2 ^ 0 ≡ x = omega arith in rw (zero-add m, e)
+zeros (suc k) m x =
+    let e : x * 2 ^ suc k ≡ x * 2 ^ k * 2 = rw (pow-succ' 2 k) (omega arith) in
+    ap (λ (n : ℕ). clocks n 0 (x * 2 ^ suc k)) (suc-add k m) ∙ ap (clocks (k + m) 0) (ap (λ (z : ℕ). clock z 0) e ∙ even (x * 2 ^ k)) ∙ zeros k m x
+
+-- the register and n bits of data, moved up by k
+pub fewer : (k n r w x y : ℕ) → k + n ≡ 64 → 16 ≤ n → r < 2 ^ 16 → w < 2 ^ n → x ≡ left k (bitXor r w) → y ≡ clocks 64 x 0 → y ≡ clocks n w r
+fewer k n r w x y e l h i p q =
+    let b : bitXor r w < 2 ^ n = xor-lt n r w (lt-of-lt-of-le h (pow-mono l)) i in
+    let s : 2 ^ n * 2 ^ k ≡ 2 ^ 64 = sym (pow-add 2 n k) ∙ ap (λ (m : ℕ). 2 ^ m) (let z : n + k ≡ 64 = omega arith in z) in
+    let t : bitXor r w * 2 ^ k < 2 ^ 64 = rw s at (mul-lt-mul-of-pos-right b (pow-pos k)) in
+    q ∙ ap (λ (z : ℕ). clocks 64 z 0) (p ∙ mod-eq-of-lt t) ∙ from-zero 64 (bitXor r w * 2 ^ k) t
+    ∙ ap (λ (m : ℕ). clocks m 0 (bitXor r w * 2 ^ k)) (sym e) ∙ zeros k n (bitXor r w) ∙ sym (clocks-in n w r i)
+
+-- ---- one byte: what is left of the register comes beside it
+
+abbrev shape8 : ℕ → ℕ
+shape8 x = bitXor (right 8 x) (clocks 64 0 (left 56 x))
 
 linear8 : Linear shape8
-linear8 =
-    let t : Linear (λ x. shape8-of (left 56 x)) = then (left 56) shape8-of (lefts 56) (once-linear 4) in
-    let at : (k : ℕ) → Linear (λ x. right k (shape8-of (left 56 x))) = λ k. then (λ x. shape8-of (left 56 x)) (right k) t (rights k) in
-    plus (λ x. bitXor (bitXor (right 8 x) (right 48 (shape8-of (left 56 x)))) (right 53 (shape8-of (left 56 x)))) (λ x. right 60 (shape8-of (left 56 x)))
-    (plus (λ x. bitXor (right 8 x) (right 48 (shape8-of (left 56 x)))) (λ x. right 53 (shape8-of (left 56 x)))
-    (plus (right 8) (λ x. right 48 (shape8-of (left 56 x))) (rights 8) (at 48)) (at 53)) (at 60)
-
--- ---- each is that many clocks: the test at each power of two
-
-test64 : T (agrees 64 shape64 (clocks 64 0))
-unfolding clocks clock
-test64 = tt
-
-test32 : T (agrees 32 shape32 (clocks 32 0))
-unfolding clocks clock
-test32 = tt
-
-test16 : T (agrees 16 shape16 (clocks 16 0))
-unfolding clocks clock
-test16 = tt
+linear8 = plus (right 8) (λ x. clocks 64 0 (left 56 x)) (rights 8) (then (left 56) (clocks 64 0) (lefts 56) (clocked 64))
 
 test8 : T (agrees 16 shape8 (clocks 8 0))
 unfolding clocks clock
 test8 = tt
 
--- what is n clocks on every sum of register and data is n clocks with that data
-with-data : (n k : ℕ) (f : ℕ → ℕ) → Linear f → T (agrees k f (clocks n 0)) → (r w : ℕ) → r < 2 ^ 16 → w < 2 ^ n → bitXor r w < 2 ^ k
-    → (f (bitXor r w) ≡ clocks n w r) × (f (bitXor r w) < 2 ^ 16)
-with-data n k f l t r w h i j =
-    let e : f (bitXor r w) ≡ clocks n w r = agree k f (clocks n 0) l (clocked n) t (bitXor r w) j ∙ sym (clocks-in n w r i) in
-    (e, rw e (clocks-lt n w r h))
-
-pub law64 : (r w : ℕ) → r < 2 ^ 16 → w < 2 ^ 64 → (shape64 (bitXor r w) ≡ clocks 64 w r) × (shape64 (bitXor r w) < 2 ^ 16)
-law64 r w h i = with-data 64 64 shape64 linear64 test64 r w h i (xor-lt 64 r w (omega arith) i)
-
-pub law32 : (r w : ℕ) → r < 2 ^ 16 → w < 2 ^ 32 → (shape32 (bitXor r w) ≡ clocks 32 w r) × (shape32 (bitXor r w) < 2 ^ 16)
-law32 r w h i = with-data 32 32 shape32 linear32 test32 r w h i (xor-lt 32 r w (omega arith) i)
-
-pub law16 : (r w : ℕ) → r < 2 ^ 16 → w < 2 ^ 16 → (shape16 (bitXor r w) ≡ clocks 16 w r) × (shape16 (bitXor r w) < 2 ^ 16)
-law16 r w h i = with-data 16 16 shape16 linear16 test16 r w h i (xor-lt 16 r w h i)
-
-pub law8 : (r w : ℕ) → r < 2 ^ 16 → w < 2 ^ 8 → (shape8 (bitXor r w) ≡ clocks 8 w r) × (shape8 (bitXor r w) < 2 ^ 16)
-law8 r w h i = with-data 8 16 shape8 linear8 test8 r w h i (xor-lt 16 r w h (omega arith))
+pub one-law : (r w y : ℕ) → r < 2 ^ 16 → w < 2 ^ 8 → y ≡ clocks 64 (left 56 (bitXor r w)) 0
+    → (bitXor (right 8 (bitXor r w)) y ≡ clocks 8 w r) × (bitXor (right 8 (bitXor r w)) y < 2 ^ 16)
+one-law r w y h i q =
+    let x : ℕ = bitXor r w in
+    let e : bitXor (right 8 x) y ≡ clocks 8 w r =
+    ap (bitXor (right 8 x)) (q ∙ from-zero 64 (left 56 x) (omega arith))
+    ∙ agree 16 shape8 (clocks 8 0) linear8 (clocked 8) test8 x (xor-lt 16 r w h (omega arith)) ∙ sym (clocks-in 8 w r i) in
+    (e, rw e (clocks-lt 8 w r h))

@@ -57,9 +57,9 @@ pair-law s i a b h p q =
     let z = part-one s (i + 1) (omega arith) in
     omega arith
 
-pub both-law : (m : ℕ) (s : List ℕ) (i a b : ℕ) → i + (m + m) ≤ length s → a ≡ little (part s i m) → b ≡ little (part s (i + m) m)
-    → a + 256 ^ m * b ≡ little (part s i (m + m))
-both-law m s i a b h p q = rw (p, q) (sym (part-add m m s i (omega arith)))
+pub both-law : (m n : ℕ) (s : List ℕ) (i a b : ℕ) → i + (m + n) ≤ length s → a ≡ little (part s i m) → b ≡ little (part s (i + m) n)
+    → a + 256 ^ m * b ≡ little (part s i (m + n))
+both-law m n s i a b h p q = rw (p, q) (sym (part-add m n s i (omega arith)))
 
 -- n bytes more
 pub more-law : (n : ℕ) (s : List ℕ) (i r w y x : ℕ) → ((k : ℕ) → getD s k 0 < 256) → i + n ≤ length s

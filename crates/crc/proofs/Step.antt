@@ -2,12 +2,12 @@
 -- Assumes nothing.
 use mathlib.Core.Path.{_≡_, refl, sym, ap, ap₂, _∙_}
 use mathlib.Core.Bool.{Bool, true, false, cond}
-use Prim.Native.Nat.{ℕ, zero, suc, _+_, _-_, _*_, _/_, _%_, _^_, _<_, _≤_}
+use Prim.Native.Nat.{ℕ, zero, suc, _+_, _-_, _*_, _/_, _%_, _^_, _<_}
 use native.Mathlib.Nat.{pow-succ', zero-add, suc-add, mul-assoc, div-div-eq-div-mul}
 use native.Mathlib.Omega.{arith}
 use lib.Arith.{bin-ind}
 use lib.Dec.{eqb}
-use lib.Bits.{bitXor, differ, xor-step, xor-zero-r, xor-comm, xor-lt, xor-self, xor-shifted, xor-shr}
+use lib.Bits.{bitXor, differ, xor-step, xor-zero-r, xor-comm, xor-lt, xor-self, xor-shr}
 use Rattle.crc.specs.Crc.{polynomial, clock, clocks}
 
 -- ---- sums of binary digits

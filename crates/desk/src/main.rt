@@ -3,7 +3,7 @@ fn main() {
     let mut path = io::buffer();
     let length = os::arg(1, &mut path);
     if os::errno() != 0 {
-        prints::say(b"desk FILE: the file of an image is to be named\n");
+        text::prints::say(b"desk FILE: the file of an image is to be named\n");
         return;
     }
     console::desk(&path[..length]);

@@ -1,8 +1,6 @@
 // The directory's entries and its two ends, between values and bytes. Its chain table is crate table's.
 use fields::Layout;
 ghost use mathlib.Core.Path.{_≡_};
-ghost use Prim.Native.Nat.{_*_, _≤_};
-ghost use lib.ListN.{length};
 ghost use Rattle.directory.specs.Records.{entryBytes, entryOf, headBytes, headOf, tailBytes, tailOf};
 
 // EF, OID, TYP, PTYP, VGP, IINL, EXP.
@@ -57,29 +55,13 @@ pub fn encode_entry(values: [u64; 7]) -> EntryBytes
     }
 }
 
-// The entry that starts with the slice.
-fn entry_in(s: &[u8]) -> Entry
-    requires { ⌜ 40 ≤ 8 * length (now s) ⌝ }
-    ensures { λ r. ⌜ r ≡ entryOf (now (s .entry)) ⌝ }
-{
-    Entry {
-        values: [
-            fields::value(s, Layout::Entry, 0),
-            fields::value(s, Layout::Entry, 1),
-            fields::value(s, Layout::Entry, 2),
-            fields::value(s, Layout::Entry, 3),
-            fields::value(s, Layout::Entry, 4),
-            fields::value(s, Layout::Entry, 5),
-            fields::value(s, Layout::Entry, 6),
-        ],
-    }
-}
-
 // The values that the five bytes hold.
 pub fn decode_entry(bytes: [u8; 5]) -> Entry
     ensures { λ r. ⌜ r ≡ entryOf bytes ⌝ }
 {
-    entry_in(&bytes)
+    let mut values = [0u64; 7];
+    fields::read(&bytes, Layout::Entry, &mut values);
+    Entry { values: values }
 }
 
 // The two bytes of the three leading values; or 26 and zeros.
@@ -99,13 +81,9 @@ pub fn encode_head(values: [u64; 3]) -> HeadBytes
 pub fn decode_head(bytes: [u8; 2]) -> Head
     ensures { λ r. ⌜ r ≡ headOf bytes ⌝ }
 {
-    Head {
-        values: [
-            fields::value(&bytes, Layout::Head, 0),
-            fields::value(&bytes, Layout::Head, 1),
-            fields::value(&bytes, Layout::Head, 2),
-        ],
-    }
+    let mut values = [0u64; 3];
+    fields::read(&bytes, Layout::Head, &mut values);
+    Head { values: values }
 }
 
 // The six bytes from DIRS# to ISAMID; or 26 and zeros.
@@ -125,12 +103,7 @@ pub fn encode_tail(values: [u64; 4]) -> TailBytes
 pub fn decode_tail(bytes: [u8; 6]) -> Tail
     ensures { λ r. ⌜ r ≡ tailOf bytes ⌝ }
 {
-    Tail {
-        values: [
-            fields::value(&bytes, Layout::Tail, 0),
-            fields::value(&bytes, Layout::Tail, 1),
-            fields::value(&bytes, Layout::Tail, 2),
-            fields::value(&bytes, Layout::Tail, 3),
-        ],
-    }
+    let mut values = [0u64; 4];
+    fields::read(&bytes, Layout::Tail, &mut values);
+    Tail { values: values }
 }

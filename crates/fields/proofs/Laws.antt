@@ -77,13 +77,6 @@ bit-stores-out a (p ∷ ps) e t l (v ∷ vs) i o =
     bit-stores-out (a + p .1) ps e (tail-of a p ps e t) (store l (p .0) (p .1) v) vs i (⊎-elim (λ h. inl (omega arith)) (λ h. inr h) o)
     ∙ bit-store-out l (p .0) (p .1) v i (⊎-elim (λ h. inl (omega arith)) (λ h. inr (omega arith)) o)
 
--- nor by a store of one of its fields
-pub bit-store-outside : (a : ℕ) (ps : List Span) (e : ℕ) → T (joined a ps e) → (l : List ℕ) (v n i : ℕ) → n < length ps → (i < a) ⊎ (e ≤ i)
-    → bit (store l (nth ps n .0) (nth ps n .1) v) i ≡ bit l i
-bit-store-outside a ps e t l v n i h o =
-    let w = within a ps e t n h in
-    bit-store-out l (nth ps n .0) (nth ps n .1) v i (⊎-elim (λ z. inl (omega (arith, w .0))) (λ z. inr (omega (arith, w .1))) o)
-
 -- a field before the list stays
 pub field-before : (a : ℕ) (ps : List Span) (e : ℕ) → T (joined a ps e) → (l vs : List ℕ) (q u : ℕ) → q + u ≤ a
     → field (stores l ps vs) q u ≡ field l q u
@@ -240,26 +233,13 @@ none-lowest ms vs e a = out (above-found ms vs 0 e)
     out (none b) = refl
     out (at k f) = absurd (omega (arith, a k (f .inside), f .over))
 
--- and n + 1 exactly if the value n is the first above
+-- and n + 1 only if the value n is the first above
 pub lowest-first : (ms vs : List ℕ) (n : ℕ) → length ms ≡ length vs → lowest ms vs ≡ suc n → First ms vs n
 lowest-first ms vs n e z = out z (above-found ms vs 0 e)
   where
     out : {r : ℕ} → r ≡ suc n → Found ms vs 0 r → First ms vs n
     out q (none a) = absurd (omega arith)
     out q (at k f) = let i : n ≡ k = omega arith in rw i f
-
-pub first-lowest : (ms vs : List ℕ) (n : ℕ) → length ms ≡ length vs → First ms vs n → lowest ms vs ≡ suc n
-first-lowest ms vs n e g = out (above-found ms vs 0 e)
-  where
-    out : {r : ℕ} → Found ms vs 0 r → r ≡ suc n
-    out (none a) = absurd (omega (arith, a n (g .inside), g .over))
-    out (at k f) =
-        ⊎-elim (λ h. absurd (omega (arith, g .low k h, f .over)))
-        (λ h. ⊎-elim (λ i. absurd (omega (arith, f .low n i, g .over))) (λ i. omega arith) (lt-or-le n k)) (lt-or-le k n)
-
--- as many values as limits, and none above: the values fit the places
-pub fit-of : (ps : List Span) (vs : List ℕ) → length vs ≡ length ps → AllLow (limits ps) vs → Fit ps vs
-fit-of ps vs e a = record { many = e; low = λ i h. rw (getD-limits ps i h) at (a i (omega arith)) }
 
 -- a list that is all of the bytes
 pub stores-whole : (ps : List Span) (m l : List ℕ) → T (joined 0 ps (8 * length l)) → Bytes m → Bytes l → length m ≡ length l → stores m ps (fields l ps) ≡ l

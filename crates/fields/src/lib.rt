@@ -1,27 +1,15 @@
 // Lists of fields that meet end to end: one list for each record of the card, and the routines that read and store by a list.
 ghost use mathlib.Core.Path.{_≡_};
-ghost use Prim.Native.Nat.{_*_, _<_, _≤_};
+ghost use Prim.Native.Nat.{_+_, _*_, _<_, _≤_};
 ghost use lib.ListN.{length, replicate};
 ghost use Rattle.bits.specs.Bits.{field, store};
 ghost use Rattle.fields.specs.Lists as lists;
 ghost use Rattle.fields.specs.Lists.{listOf, endOf, nth};
 ghost use Rattle.rules.specs.Claim.{holds};
-ghost use Rattle.fields.specs.Fields.{fields, stores, limitOf, limits, lowest, setTold, setIn, fit, packNumber, packIn};
+ghost use Rattle.fields.specs.Fields.{at, fields, stores, limitOf, fit, packNumber, packIn};
 
 // The first bit and the width of a field.
 pub struct Span(pub u16, pub u16);
-
-// Eight values that follow each other in a list.
-pub struct Eight(
-    pub u64,
-    pub u64,
-    pub u64,
-    pub u64,
-    pub u64,
-    pub u64,
-    pub u64,
-    pub u64,
-);
 
 // The records of the card: each has its own list.
 pub enum Layout {
@@ -127,7 +115,7 @@ fn in_shell(i: usize) -> Span
 }
 
 // The place of the field i of an entry.
-fn in_entry(i: usize) -> Span
+pub fn in_entry(i: usize) -> Span
     requires { ⌜ i < length lists.entry ⌝ }
     ensures { λ r. ⌜ r ≡ nth lists.entry i ⌝ }
 {
@@ -135,7 +123,7 @@ fn in_entry(i: usize) -> Span
 }
 
 // The place of the field i of a directory's or a ticket's header.
-fn in_head(i: usize) -> Span
+pub fn in_head(i: usize) -> Span
     requires { ⌜ i < length lists.head ⌝ }
     ensures { λ r. ⌜ r ≡ nth lists.head i ⌝ }
 {
@@ -150,12 +138,20 @@ fn in_tail(i: usize) -> Span
     TAIL[i]
 }
 
+// The places of a ticket's fields: all of them at once, for a loop over them.
+pub fn typ23() -> [Span; 22]
+    ensures { λ r. ⌜ r ≡ lists.typ23 ⌝ }
+{
+    TYP23
+}
+
 // The place of the field i of a ticket.
-fn in_typ23(i: usize) -> Span
+pub fn in_typ23(i: usize) -> Span
     requires { ⌜ i < length lists.typ23 ⌝ }
     ensures { λ r. ⌜ r ≡ nth lists.typ23 i ⌝ }
 {
-    TYP23[i]
+    let places = typ23();
+    places[i]
 }
 
 // The place of the field i, counted from 0.
@@ -174,13 +170,20 @@ pub fn place(k: Layout, i: usize) -> Span
     }
 }
 
+// The number at a place. Asked with a place of a list by its own name, as in_entry(2), nothing is left to look up in any caller.
+pub fn at(s: &[u8], p: Span) -> u64
+    requires { ⌜ (p .1 ≤ 56) × (p .0 + p .1 ≤ 8 * length (now s)) ⌝ }
+    ensures { λ r. ⌜ r ≡ at (now (s .entry)) p ⌝ }
+{
+    bits::get(s, p.0 as usize, p.1 as usize)
+}
+
 // The value of the field i.
 pub fn value(s: &[u8], k: Layout, i: usize) -> u64
     requires { ⌜ (i < length (listOf k)) × (endOf k ≤ 8 * length (now s)) ⌝ }
     ensures { λ r. ⌜ r ≡ field (now (s .entry)) (nth (listOf k) i .0) (nth (listOf k) i .1) ⌝ }
 {
-    let p = place(k, i);
-    bits::get(s, p.0 as usize, p.1 as usize)
+    at(s, place(k, i))
 }
 
 // Stores the low digits of a value in the field i.
@@ -192,31 +195,20 @@ pub fn store_at(s: &mut [u8], k: Layout, i: usize, v: u64)
     bits::put(s, q.0 as usize, q.1 as usize, v)
 }
 
-// What storing one value answers.
-pub enum Stored {
-    Done,
-    TooLarge,
-}
-
-// Stores a value in the field i where it is at most `most`; else nothing changes.
-pub fn set(s: &mut [u8], k: Layout, i: usize, most: u64, v: u64) -> Stored
-    requires { ⌜ (i < length (listOf k)) × (endOf k ≤ 8 * length (now s)) ⌝ }
-    ensures { λ r. ⌜ (r ≡ setTold most v) × (now (s .exit) ≡ setIn (now (s .entry)) (nth (listOf k) i) most v) ⌝ }
+// The largest number of a place.
+pub fn largest(p: Span) -> u64
+    requires { ⌜ p .1 < 64 ⌝ }
+    ensures { λ r. ⌜ r ≡ limitOf p ⌝ }
 {
-    if v <= most {
-        store_at(s, k, i, v);
-        return Stored::Done;
-    }
-    Stored::TooLarge
+    (1u64 << p.1) - 1
 }
 
 // The largest value of the field i.
-pub fn limit(k: Layout, i: usize) -> u64
+fn limit(k: Layout, i: usize) -> u64
     requires { ⌜ i < length (listOf k) ⌝ }
     ensures { λ r. ⌜ r ≡ limitOf (nth (listOf k) i) ⌝ }
 {
-    let p = place(k, i);
-    (1u64 << p.1) - 1
+    largest(place(k, i))
 }
 
 // The values of the whole list.
@@ -243,34 +235,6 @@ pub fn write(s: &mut [u8], k: Layout, values: &[u64])
         store_at(s, k, i, values[i]);
         i += 1;
     }
-}
-
-// The largest values of the whole list.
-pub fn fill_limits(k: Layout, out: &mut [u64])
-    requires { ⌜ length (now out) ≡ length (listOf k) ⌝ }
-    ensures { λ _. ⌜ now (out .exit) ≡ limits (listOf k) ⌝ }
-{
-    let n = count(k);
-    let mut i: usize = 0;
-    while i < n {
-        out[i] = limit(k, i);
-        i += 1;
-    }
-}
-
-// The number, from 1, of the first value above its limit; 0 where there is none.
-pub fn first_above(most: &[u64], values: &[u64]) -> usize
-    requires { ⌜ length (now most) ≡ length (now values) ⌝ }
-    ensures { λ r. ⌜ r ≡ lowest (now (most .entry)) (now (values .entry)) ⌝ }
-{
-    let mut i: usize = 0;
-    while i < values.len() {
-        if most[i] < values[i] {
-            return i + 1;
-        }
-        i += 1;
-    }
-    0
 }
 
 // Zero in every byte.

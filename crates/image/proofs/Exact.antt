@@ -1,9 +1,9 @@
 -- The verdict is exact: it gives number n with entry e if and only if document 01 says so, and it accepts if and only if the image obeys.
 -- Assumes nothing.
 use mathlib.Core.Path.{_≡_, refl, subst}
-use mathlib.Core.Logic.{_↔_, _⊎_, inl, inr}
+use mathlib.Core.Logic.{_↔_, _≢_, _⊎_, inl, inr}
 use mathlib.Core.Bool.{Bool, true, _&&_, not}
-use mathlib.Core.List.{List, [], _∷_}
+use mathlib.Core.List.{List}
 use Prim.Native.Nat.{ℕ, zero, suc, _+_, _-_, _*_, _≤_, _<_}
 use native.Mathlib.Omega.{arith}
 use lib.Dec.{eqb, leb}
@@ -14,9 +14,9 @@ use Rattle.chains.specs.Chain.{Sector, Chain}
 use Rattle.chains.specs.Psi.{Ψ}
 use Rattle.chains.proofs.ProductLaws as products
 use Rattle.chains.proofs.ProductLaws.{Tested}
-use Rattle.rules.specs.Claim.{Kept, Fails, here, later, Rule, first, KeptBelow, Unkept}
+use Rattle.rules.specs.Claim.{Kept, Fails, here, later, Rule, first, FailsRow}
 use Rattle.rules.proofs.ClaimLaws as CL
-use Rattle.rules.proofs.ClaimLaws.{and-true, Found, none, one, kept-fails, fails-one, Numbered, Rising, fails-row}
+use Rattle.rules.proofs.ClaimLaws.{and-true, Found, none, one, kept-fails, fails-one, Numbered, together, fails-absent, fails-row}
 use Rattle.rules.specs.Lowest.{lowest}
 use Rattle.rules.proofs.LowestLaws.{Found-lowest, nowhere, somewhere, lowest-is}
 use Rattle.image.specs.Image.{shellPad, tablePad, dataset, S, e#, SCTL, entryAt, tableAt, isProduct, element, chain, sectors}
@@ -77,13 +77,13 @@ module _ (c : List ℕ) (fits : e# c ≤ S c - 3) where
 
 -- ---- the rules 1 to 9
 
-numbered : (c : List ℕ) → Numbered (rules c)
+pub numbered : (c : List ℕ) → Numbered (rules c)
 unfolding rules
 numbered c = omega arith
 
-rising : (c : List ℕ) → Rising 0 (rules c)
+rows : (c : List ℕ) → together (rules c) ≡ true
 unfolding rules
-rising c = omega arith
+rows c = refl
 
 kept-bounds : (c : List ℕ) → Kept (rules c) → Bounds c
 unfolding rules
@@ -164,15 +164,6 @@ fits-kept : (c : List ℕ) → Kept (rules c) → e# c ≤ S c - 3
 unfolding rules
 fits-kept c k = k .1 .1 .1 .1 .1 .1 .1 .1 .1 .0 .1
 
--- no rule's number is above k
-abbrev AtMost : ℕ → List Rule → Type 0
-AtMost k [] = Unit {0}
-AtMost k (r ∷ rs) = (r .number ≤ k) × AtMost k rs
-
-at-most : {k n : ℕ} {rs : List Rule} → Fails rs n → AtMost k rs → n ≤ k
-at-most (here b) h = h .0
-at-most (later m f) h = at-most f (h .1)
-
 -- ---- the verdict
 
 module _ (c : List ℕ) where
@@ -248,31 +239,36 @@ module _ (c : List ℕ) where
   pub accepts : (verdict c .number ≡ 0) ↔ Obeys c
   accepts = ((λ z. obeys-says says z), λ o. exact 0 0 .1 (accepted o) .0)
 
-  row-says : {n e : ℕ} → Says c n e → 1 ≤ n → n ≤ 9 → Fails (rules c) n
-  row-says (accepted o) a b = absurd (omega arith)
-  row-says (refused f) a b = f
-  row-says (O.broken r l) a b = absurd (omega arith)
-  row-says (shared r d l) a b = absurd (omega arith)
+  row-says : {n e : ℕ} → Says c n e → n ≢ 0 → n ≢ 10 → n ≢ 11 → Fails (rules c) n
+  row-says (accepted o) x y z = absurd (x refl)
+  row-says (refused f) x y z = f
+  row-says (O.broken r l) x y z = absurd (y refl)
+  row-says (shared r d l) x y z = absurd (z refl)
 
-  -- numbers 1 to 9, as the table has them: a rule of row n is not kept, and every rule of the rows above it is
-  pub row : (n : ℕ) → 1 ≤ n → n ≤ 9 → (verdict c .number ≡ n) ↔ (KeptBelow n (rules c) × Unkept n (rules c))
-  row n a b =
-      ((λ q. fails-row n 0 (rules c) (rising c) .0 (row-says (subst (λ (m : ℕ). Says c m (verdict c .entry)) q says) a b)), λ p. exact n 0 .1 (refused (fails-row n 0 (rules c) (rising c) .1 p)) .0)
+  -- every number but 10 and 11, as the table has them: row n says so, and every row before it holds
+  pub row : (n : ℕ) → n ≢ 0 → n ≢ 10 → n ≢ 11 → (verdict c .number ≡ n) ↔ FailsRow n (rules c)
+  row n x y z =
+      let l = fails-row n (rules c) (rows c) in
+      ((λ q. l .0 (row-says (subst (λ (m : ℕ). Says c m (verdict c .entry)) q says) x y z)), λ p. exact n 0 .1 (refused (l .1 p)) .0)
 
-  -- no rule of the list has a number above 9
-  listed : {n : ℕ} → Fails (rules c) n → n ≤ 9
+  -- 10 and 11 are numbers of no rule of the list
+  not-ten : Fails (rules c) 10 → ⊥
   unfolding rules
-  listed f = at-most {k = 9} f (omega arith)
+  not-ten f = fails-absent f refl
+
+  not-eleven : Fails (rules c) 11 → ⊥
+  unfolding rules
+  not-eleven f = fails-absent f refl
 
   broken-says : {n e : ℕ} → Says c n e → n ≡ 10 → Kept (rules c) × Lowest (Broken c) e
   broken-says (accepted o) z = absurd (omega arith)
-  broken-says (refused f) z = absurd (omega (arith, listed f))
+  broken-says (refused f) z = absurd (not-ten (subst (Fails (rules c)) z f))
   broken-says (O.broken r l) z = (r, l)
   broken-says (shared r b l) z = absurd (omega arith)
 
   shared-says : {n e : ℕ} → Says c n e → n ≡ 11 → Kept (rules c) × ((j : ℕ) → Broken c j → ⊥) × Lowest (Shares c) e
   shared-says (accepted o) z = absurd (omega arith)
-  shared-says (refused f) z = absurd (omega (arith, listed f))
+  shared-says (refused f) z = absurd (not-eleven (subst (Fails (rules c)) z f))
   shared-says (O.broken r l) z = absurd (omega arith)
   shared-says (shared r b l) z = (r, b, l)
 

@@ -1,24 +1,20 @@
 -- A product of an acceptable image: its size, and its first bytes. B is at least 32, so its fixed fields lie in the first sector of its chain.
 -- Assumes nothing.
-use mathlib.Core.Path.{_≡_, refl, sym, ap, _∙_}
+use mathlib.Core.Path.{_≡_, refl, ap, _∙_}
 use mathlib.Core.Logic.{inl, inr}
 use mathlib.Core.List.{List, [], _∷_, _++_}
-use Prim.Native.Nat.{ℕ, suc, _+_, _*_, _≤_, _<_}
+use Prim.Native.Nat.{ℕ, _+_, _*_, _≤_}
 use native.Mathlib.Nat.{suc-mul}
 use native.Mathlib.Omega.{arith}
-use lib.ListN.{length, take, drop, length-drop, length-append}
+use lib.ListN.{length, drop, length-drop, length-append}
 use lib.Seq.{length-take-le}
 use Rattle.bits.specs.Bits.{Bytes, field}
 use Rattle.bits.proofs.Laws.{field-cong, field-part, bit-append-left, bytes-append, bytes-take, bytes-drop}
-use Rattle.fields.specs.declared.Span.{Span}
 use Rattle.fields.specs.Fields.{fields}
-use Rattle.fields.proofs.Only.{Inside}
-use Rattle.fields.proofs.Parts.{fields-left}
 use Rattle.chains.specs.Chain.{Sector, Leads, last, In}
 use Rattle.chains.specs.Chain as C
 use Rattle.chains.proofs.Laws.{chain-sectors}
 use Rattle.image.specs.Image.{B, S, sectorAt, element, sectors, sector, joined, product}
-use Rattle.image.specs.Bounds.{Bounds}
 use Rattle.image.specs.Obeys.{IsProduct, Obeys}
 use Rattle.image.proofs.Exact.{product-sector}
 use Rattle.image.proofs.Accepted.{obeys-bounds}
@@ -67,12 +63,6 @@ module _ (c : List ℕ) (o : Obeys c) where
     pub product-starts : (rest : List ℕ) × (product c j ≡ sector c j ++ rest)
     unfolding product joined
     product-starts = let r = sectors-head (chain-of c o v .leads) in (joined c (r .0), ap (joined c) (r .1))
-
-    -- its fields up to byte B are those of sector j
-    pub product-fields : (ps : List Span) → Inside 0 (8 * B c) ps → fields (product c j) ps ≡ fields (sector c j) ps
-    product-fields ps h =
-        let e = length-sector j (product-sector c (o .entries .1) v) in
-        rw (product-starts .1) (fields-left (sector c j) (product-starts .0) ps (rw e h))
 
     pub product-first : (p w : ℕ) → p + w ≤ 8 * B c → field (product c j) p w ≡ field c (8 * sectorAt c j + p) w
     unfolding sector

@@ -8,9 +8,9 @@ pub mod Limits
 pub mod Entries
 pub mod Stops
 pub mod Verdict
-pub mod Order
 pub mod Accepted
 pub mod First
 pub mod Same
+pub mod Places
 pub mod Stays
 pub mod Founds

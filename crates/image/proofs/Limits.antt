@@ -1,22 +1,25 @@
 -- Document 01's bounds: the smallest image that can be accepted has 132 bytes, and the largest 60,439; its chains have at most S - 3 sectors
--- together. And a broken chain in its words.
+-- together, and a check consults at most 2 × (S - 3) elements. And a broken chain in its words.
 -- Assumes nothing.
 use mathlib.Core.Logic.{_↔_}
 use mathlib.Core.List.{List, []}
-use Prim.Native.Nat.{ℕ, _-_, _≤_, _<_}
+use Prim.Native.Nat.{ℕ, _-_, _*_, _≤_, _<_}
 use native.Mathlib.Nat.{mul-le-mul}
 use native.Mathlib.Omega.{arith}
 use native.Mathlib.Decide.{decLt}
 use lib.ListN.{length}
 use lib.Pow.{pow-mono}
-use Rattle.chains.specs.Chain.{Distinct, Breaks}
+use Rattle.chains.specs.Chain.{Distinct, Break, Breaks}
 use Rattle.chains.specs.Products.{together}
+use Rattle.chains.proofs.ProductLaws.{disjoint-none}
 use Rattle.chains.proofs.Together.{together-once, together-few}
+use Rattle.chains.proofs.Consulted.{consulted-most}
 use Rattle.chains.proofs.Broken.{broken-breaks}
 use Rattle.image.specs.Image.{S, e#, isProduct, element}
 use Rattle.chains.proofs.PsiLaws.{psi-is}
 use Rattle.image.specs.Bounds.{Bounds}
-use Rattle.image.specs.Obeys.{Obeys, IsProduct, Broken}
+use Rattle.image.specs.Consulted.{stops, consulted}
+use Rattle.image.specs.Obeys.{Obeys, IsProduct, Broken, Shares}
 use Rattle.image.proofs.Exact.{product-sector, tested, obeys-bounds}
 use Rattle.chains.specs.Psi.{Ψ}
 
@@ -39,18 +42,28 @@ largest c o b = omega (arith, o .whole, mul-le-mul {n₂ = 237} {m₂ = 255} (fe
 pub smallest : (c : List ℕ) → Obeys c → 132 ≤ length c
 smallest c o = omega (arith, o .whole, mul-le-mul {n₁ = 4} {m₁ = 32} (o .sectors-least) (o .size-least))
 
--- the sectors of all chains of an acceptable image: at most S - 3 of them together, and none twice
+-- while none of the products up to entry n shares a sector with a lower one, their chains have at most S - 3 sectors together, and none twice
+pub sectors-together : (c : List ℕ) → e# c ≤ S c - 3 → (n : ℕ) → ((k : ℕ) → k ≤ n → Shares c k → ⊥)
+    → Distinct (together (isProduct c) (element c) (S c) n) × (length (together (isProduct c) (element c) (S c) n) ≤ S c - 3)
+sectors-together c fits n clean = let t = tested c fits in (together-once t (element c) n clean, together-few t (element c) n clean)
+
+-- so have all chains of an acceptable image
 pub all-sectors : (c : List ℕ) → Obeys c → Distinct (together (isProduct c) (element c) (S c) (e# c)) × (length (together (isProduct c) (element c) (S c) (e# c)) ≤ S c - 3)
-all-sectors c o =
-    let t = tested c (o .entries .1) in
-    (together-once t (element c) (o .disjoint) (e# c), together-few t (element c) (o .disjoint) (e# c))
+all-sectors c o = sectors-together c (o .entries .1) (e# c) (λ k l. disjoint-none (tested c (o .entries .1)) (element c) .0 (o .disjoint) k)
+
+-- a check consults at most 2 × (S - 3) elements of the chain table
+pub elements-consulted : (c : List ℕ) → Bounds c → consulted c ≤ 2 * (S c - 3)
+unfolding consulted
+elements-consulted c b =
+    let t = tested c (omega (arith, b .e-top)) in
+    consulted-most (isProduct c) (element c) (S c) (b .s-top) (λ j e. t .sector j (t .so j e)) (e# c) (stops c)
 
 -- nothing of another size can be accepted
 pub size-limits : (c : List ℕ) → Obeys c → (132 ≤ length c) × (length c ≤ 60439)
 size-limits c o = (smallest c o, largest c o (obeys-bounds c o))
 
 -- a chain is broken if it meets 0 or a number above S - 1, or returns to a sector it has passed
-pub broken-words : (c : List ℕ) → e# c ≤ S c - 3 → {j : ℕ} → IsProduct c j → Broken c j ↔ Breaks (element c) (S c) [] j
+pub broken-words : (c : List ℕ) → e# c ≤ S c - 3 → {j : ℕ} → IsProduct c j → Broken c j ↔ ((b : Break) × Breaks (element c) (S c) [] j b)
 broken-words c fits v =
     let t = broken-breaks (element c) (S c) (product-sector c fits v) in
     ((λ b. t .0 (b .none)), λ b. record { is-product = v; none = t .1 b })

@@ -10,8 +10,7 @@ use native.Mathlib.Omega.{arith}
 use Rattle.bits.specs.Bits.{field}
 use Rattle.chains.specs.Chain.{Sector, Ends, In, Common, Chain, Walk, found, broken, walk, lastOf}
 use Rattle.chains.specs.Psi.{tableBytes}
-use Rattle.chains.proofs.Laws.{found-chain, broken-none, chain-apart, chain-marked}
-use Rattle.chains.proofs.Kept.{chain-kept}
+use Rattle.chains.proofs.Laws.{found-chain, broken-none, chain-apart, chain-marked, chain-kept}
 use Rattle.image.specs.Image.{S, e#, directoryAt, entryAt, isProduct, element, chain, sectors, sectorsOf, mark, markOf}
 use Rattle.image.specs.Obeys.{IsProduct, Obeys}
 use Rattle.image.proofs.Exact.{test-product, product-test, product-sector, so-sectors}
@@ -27,7 +26,7 @@ chain-of c o {j} v = go (walk (element c) (S c) j (S c - 3)) refl
 
     go : (w : Walk) → walk (element c) (S c) j (S c - 3) ≡ w → Chain (element c) (S c) j (sectorsOf w) (markOf w)
     go (found ss m) q = found-chain (element c) (S c) s .0 q
-    go broken q = let r = o .chained j v in absurd (broken-none (element c) (S c) s .0 q (r .0) (r .1) (r .2))
+    go (broken b) q = let r = o .chained j v in absurd (broken-none (element c) (S c) s .0 (b, q) (r .0) (r .1) (r .2))
 
 pub so-mark : (c : List ℕ) → e# c ≤ S c - 3 → {j m : ℕ} {ss : List ℕ} → IsProduct c j → Chain (element c) (S c) j ss m → mark c j ≡ m
 unfolding mark chain

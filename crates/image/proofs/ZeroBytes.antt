@@ -3,13 +3,15 @@ use mathlib.Core.Path.{_≡_, refl, sym}
 use mathlib.Core.Logic.{_≢_}
 use mathlib.Core.Bool.{Bool, true, false, _&&_, not}
 use mathlib.Core.List.{List}
-use Prim.Native.Nat.{ℕ, _+_, _*_, _<_}
+use Prim.Native.Nat.{ℕ, _+_, _-_, _*_, _≤_, _<_}
 use native.Mathlib.Omega.{arith}
+use native.Mathlib.Nat.{zero-mul, mul-le-mul-left}
+use lib.Pow.{pow-pos}
 use lib.ListN.{getD}
 use lib.Dec.{eqb}
 use borrow.Author.Tests.{eq-eqb, ne-eqb, eqb-true, eqb-false}
 use Rattle.bits.specs.Bits.{field}
-use Rattle.bits.proofs.Laws.{field-next, field-zero}
+use Rattle.bits.proofs.Laws.{field-add, field-next, field-zero}
 
 -- a number is 0 where both its parts are
 parts : (a b : ℕ) → (eqb a 0 && eqb b 0) ≡ eqb (a * 256 + b) 0
@@ -20,9 +22,27 @@ parts a b = go (eqb a 0) refl (eqb b 0) refl
     go true p false q = let n = eqb-false b 0 q in sym (ne-eqb (a * 256 + b) 0 (λ e. n (omega arith)))
     go false p y q = let n = eqb-false a 0 p in sym (ne-eqb (a * 256 + b) 0 (λ e. n (omega arith)))
 
-pub turn : (l : List ℕ) (from k : ℕ) (ok : Bool) → getD l (from + k) 0 < 256 → ok ≡ eqb (field l (8 * from) (8 * k)) 0
+turn : (l : List ℕ) (from k : ℕ) (ok : Bool) → getD l (from + k) 0 < 256 → ok ≡ eqb (field l (8 * from) (8 * k)) 0
     → (ok && eqb (getD l (from + k) 0) 0) ≡ eqb (field l (8 * from) (8 * (k + 1))) 0
 turn l from k ok h e = rw (e, field-next l from k h) (parts (field l (8 * from) (8 * k)) (getD l (from + k) 0))
+
+-- with n bytes more the bytes carry 0 where those do; and they don't where some of them don't
+module _ (l : List ℕ) (from k n : ℕ) where
+  behind : 8 * (from + k) ≡ 8 * from + 8 * k
+  behind = omega arith
+
+  pub zero-more : field l (8 * from) (8 * k) ≡ 0 → field l (8 * (from + k)) (8 * n) ≡ 0 → field l (8 * from) (8 * (k + n)) ≡ 0
+  zero-more x y =
+      let e : 8 * (k + n) ≡ 8 * k + 8 * n = omega arith in
+      let w = rw behind at y in
+      rw (e, field-add l (8 * from) (8 * k) (8 * n), x, w, zero-mul)
+
+  pub zero-not : (m : ℕ) → k + n ≤ m → field l (8 * (from + k)) (8 * n) ≢ 0 → field l (8 * from) (8 * m) ≢ 0
+  zero-not m h q z =
+      let e : 8 * k + 8 * n + 8 * (m - (k + n)) ≡ 8 * m = omega arith in
+      let s = rw (← e, field-add l (8 * from) (8 * k + 8 * n) (8 * (m - (k + n)))) at z in
+      let t = mul-le-mul-left (field l (8 * from) (8 * k + 8 * n)) (pow-pos (8 * (m - (k + n)))) in
+      q (rw behind (omega (arith, field-add l (8 * from) (8 * k) (8 * n))))
 
 module _ (l : List ℕ) (k : ℕ) (bytes : (i : ℕ) → getD l (k + i) 0 < 256) where
   -- two bytes

@@ -1,8 +1,7 @@
 -- What the answers of a check mean. Assumes nothing.
 use mathlib.Core.List.{List, [], _∷_}
 use Prim.Native.Nat.{ℕ, zero, suc}
-use Rattle.rules.specs.Claim.{first}
-use Rattle.image.specs.Rules.{rules, verdict}
+use Rattle.image.specs.Rules.{verdict}
 use Rattle.image.specs.Shape.{shapeOf}
 use Rattle.image.specs.declared.Shape.{Shape}
 use Rattle.image.specs.declared.Checked.{Checked}
@@ -30,7 +29,3 @@ answer (suc n) e g = Refused (suc n) e
 -- what a check answers
 unfoldable pub checkOf : List ℕ → Checked
 checkOf c = answer (verdict c .number) (verdict c .entry) (shapeOf c)
-
--- by the rules 1 to 9 alone
-unfoldable pub ruledOf : List ℕ → Checked
-ruledOf c = answer (first (rules c)) 0 (shapeOf c)

@@ -6,3 +6,4 @@ pub mod Bounds
 pub mod Shape
 pub mod Answer
 pub mod Found
+pub mod Consulted

@@ -9,7 +9,7 @@ use Rattle.chains.specs.Psi.{tableBytes}
 use Rattle.crc.specs.Crc.{crc}
 use Rattle.rules.specs.Claim.{_≡?_, _≤?_, _and_, Rule, rule, first}
 use Rattle.rules.specs.Lowest.{lowest}
-use Rattle.shell.specs.Shell.{formRules, digitRules}
+use Rattle.shell.specs.Shell.{ShellBitMap, IIN, ISSN, CHD, formRules, digitRules}
 use Rattle.image.specs.Image.{stated, version, copy, shellValues, dataset, B, S, e#, SCTL, shellPad, SECR, beforeSECR, isProduct, element, tablePad}
 
 -- the rows 1 to 4
@@ -25,7 +25,7 @@ headRules c =
 -- the rows 5 and 6; 5 is the shell's own
 abbrev pub sizeRules : List ℕ → List Rule
 sizeRules c =
-    formRules (shellValues c)
+    formRules (ShellBitMap (shellValues c)) (dataset c)
     ++ (rule 6 (4 ≤? S c)
     ∷ rule 6 (32 ≤? B c)
     ∷ rule 6 (1 ≤? e# c and e# c ≤? S c - 3)
@@ -39,7 +39,7 @@ sizeRules c =
 abbrev pub contentRules : List ℕ → List Rule
 contentRules c =
     rule 7 (SECR c ≡? crc (beforeSECR c))
-    ∷ (digitRules (shellValues c)
+    ∷ (digitRules (IIN (shellValues c)) (ISSN (shellValues c)) (CHD (shellValues c))
     ++ (rule 8 (shellPad c ≡? 0)
     ∷ rule 9 (tablePad c ≡? 0)
     ∷ []))

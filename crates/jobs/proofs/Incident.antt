@@ -8,7 +8,7 @@ use lib.Count.{leadingZeros}
 use Rattle.bits.specs.Bits.{digit, bit, number, field, bytes, stored, store}
 use Rattle.fields.specs.Fields.{fields, stores}
 use Rattle.fields.specs.Shifted.{shifted}
-use Rattle.chains.specs.Chain.{link, walk}
+use Rattle.chains.specs.Chain.{link, member, walkOn}
 use Rattle.chains.specs.Psi.{Ψ, tableBytes}
 use Rattle.chains.specs.Products as products
 use Rattle.crc.specs.Crc.{clock, clocks, register, crc}
@@ -33,7 +33,7 @@ card a =
 
 -- what is to be computed
 judge : List ℕ → Step → Verdict
-unfolding answer seen productAt elementAt stepRules verdict rules first all stated version copy shellValues fields dataset B S e# SCTL shellPad SECR beforeSECR sectorAt directoryAt entryAt tableAt isProduct Ψ tableBytes element tablePad chain sectors mark sector joined product brokenAt sharesAt products.brokenAt products.sharesAt products.member products.meet products.some lowest field number bit digit leadingZeros walk link crc register clocks clock mostOf
+unfolding answer seen productAt elementAt stepRules verdict rules first all stated version copy shellValues fields dataset B S e# SCTL shellPad SECR beforeSECR sectorAt directoryAt entryAt tableAt isProduct Ψ tableBytes element tablePad chain sectors mark sector joined product brokenAt sharesAt products.brokenAt products.sharesAt member products.meet products.some lowest field number bit digit leadingZeros walkOn link crc register clocks clock mostOf
 judge c s = answer c s
 
 -- with rule 11 every step on it is refused

@@ -2,7 +2,7 @@
 use libc::STDIN_FILENO;
 
 fn main() {
-    let mut buf = [0u8; 60440];
+    let mut buf = [0u8; console::LARGEST_ACCEPTED + 1];
     let n = io::read_full(STDIN_FILENO, &mut buf);
-    listing::list(&buf[..n]);
+    console::list(&buf[..n]);
 }

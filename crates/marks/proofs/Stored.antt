@@ -8,35 +8,27 @@ use borrow.Rule.Slice.PartMut.{putMid}
 use Rattle.bits.specs.Bits.{Bytes, store}
 use Rattle.bits.proofs.Laws.{store-part}
 use Rattle.fields.specs.Fields.{stores}
-use Rattle.chains.specs.Chain.{Sector, lastOf}
+use Rattle.chains.specs.Chain.{Sector}
 use Rattle.chains.specs.Packed.{Inside}
 use Rattle.chains.specs.Packed as packed
 use Rattle.chains.specs.Psi.{Ψ}
-use Rattle.chains.proofs.Laws.{last-in, chain-sectors}
 use Rattle.rules.specs.Claim.{_≤?_, _and_, rule, first}
-use Rattle.image.specs.Image.{B, S, e#, directoryAt, tableAt, element, sectors, mark}
+use Rattle.image.specs.Image.{B, S, e#, directoryAt, tableAt, mark}
 use Rattle.image.specs.Shape.{Shaped}
 use Rattle.image.specs.declared.Shape.{Shape}
 use Rattle.image.specs.Product.{elementAt, productAt}
-use Rattle.image.proofs.Exact.{product-sector}
 use Rattle.image.proofs.Same.{element-in}
-use Rattle.image.proofs.Stays.{chain-of}
 use Rattle.steps.specs.Step.{setMark}
 use Rattle.steps.specs.Steps.{stepRules, next}
 use Rattle.steps.proofs.Acts.{Taken, kept-taken, kept-first, next-is}
-use Rattle.steps.proofs.Calls.{Sees, cut}
+use Rattle.image.proofs.Places.{cut}
+use Rattle.steps.proofs.Calls.{Sees}
 
 pub mark-rules : (c : List ℕ) (j m : ℕ) → stepRules (productAt c j) (setMark j m) ≡ rule 28 (1 ≤? m and m ≤? 2) ∷ rule 27 (mark c j ≤? m) ∷ []
 unfolding stepRules productAt
 mark-rules c j m = refl
 
 module _ {c : List ℕ} {j l n m : ℕ} {g : Shape} (s : Sees c j g l n m) where
-  pub last-sector : Sector (g .sectors) l
-  last-sector =
-      let h = chain-of c (s .present .obeys) (s .present .is-product) in
-      rw (s .shape .sectors-is, s .last-is)
-      (chain-sectors (element c) (S c) (product-sector c (s .present .obeys .entries .1) (s .present .is-product)) h (lastOf (sectors c j)) (last-in (element c) (S c) (h .leads)))
-
   pub mark-stored : (k : ℕ) → Taken c (setMark j k) → store c (elementAt c l) (Ψ (S c)) (S c - k) ≡ next c (setMark j k)
   unfolding productAt stores
   mark-stored k t = rw (s .last-is) (sym (next-is c (setMark j k) t))

@@ -58,8 +58,9 @@ pub fn mark(image: &mut [u8], entry: usize, mark: usize) -> Answer
     ensures { λ r. ⌜ (r ≡ answered (answer (now (image .entry)) (setMark entry mark))) × (now (image .exit) ≡ next (now (image .entry)) (setMark entry mark)) ⌝ }
 {
     match verdict::find(image, entry) {
-        Found::There(g, last, _, old) => {
-            let n = mark_number(mark, old);
+        Found::There(last, _) => {
+            let g = verdict::shape_of(image);
+            let n = mark_number(mark, image::mark_of(image, g, last));
             if n != 0 {
                 return Answer::Refused(n, entry);
             }

@@ -11,8 +11,9 @@ use Rattle.bits.specs.Bits.{Bytes}
 use Rattle.fields.specs.Lists.{listOf}
 use Rattle.fields.specs.Fields.{fields}
 use Rattle.fields.proofs.Laws.{length-fields, getD-fields}
-use Rattle.ticket.specs.Kind.{kind, limit}
+use Rattle.ticket.specs.Kind.{kind, limit, setRules, recordRule}
 use Rattle.ticket.proofs.Limits.{limit-time}
+use Rattle.ticket.proofs.Rules.{same-kind, in-extent}
 use Rattle.image.specs.Image.{product, mark}
 use Rattle.image.specs.Product.{Product, productAt}
 use Rattle.image.specs.Obeys.{Present}
@@ -20,8 +21,8 @@ use Rattle.reads.specs.Ticket.{readTicket, refusal, timeIn}
 use Rattle.reads.specs.Says.{Cause, late, Fine, refused, taken}
 use Rattle.reads.proofs.Exactly.{row-given}
 use Rattle.steps.specs.Step.{Step, write, writeAll, owner}
-use Rattle.steps.specs.Steps.{stepRules, writeRules, fieldRule, recordRule, answer, next}
-use Rattle.rules.specs.Claim.{_≤?_, Kept, Rule, rule}
+use Rattle.steps.specs.Steps.{stepRules, writeRules, answer, next}
+use Rattle.rules.specs.Claim.{Kept, Rule}
 use Rattle.steps.proofs.Acts.{Taken, zero-taken, newMark}
 use Rattle.steps.proofs.Keeps.{stays, product-kept-there, mark-own, product-same}
 use Rattle.steps.proofs.Written.{record-read, field-read}
@@ -42,10 +43,10 @@ pub record OfKind (p : Product) (room : ℕ) : Type 0 where
   pub tardy : (time : ℕ) → 1440 ≤ time → Cause p room time 24
 
 of-kind : (p : Product) (room : ℕ) (rs : List Rule) → Kept (writeRules p rs) → p .size ≤ room → OfKind p room
-of-kind p room rs k h = record {
-  fine = λ time l. record { roomy = h; of-typ = k .1 .0; of-revision = k .1 .1 .0; least = k .1 .1 .1 .0; in-product = k .1 .1 .1 .1 .0; in-day = l };
-  tardy = λ time l. late h (k .1 .0) (k .1 .1 .0) (k .1 .1 .1 .0) (k .1 .1 .1 .1 .0) l;
-}
+of-kind p room rs k h =
+    let o = same-kind (p .typ) (p .revision) (k .1 .0) (k .1 .1 .0) in
+    let x = in-extent (p .blocks) (p .size) (k .1 .1 .1 .0) (k .1 .1 .1 .1 .0) in
+    record { fine = λ time l. record { roomy = h; of-kind = o; in-extent = x; in-day = l }; tardy = λ time l. late h o x l }
 
 -- ---- after a write that was taken
 
@@ -86,7 +87,7 @@ field-read-again c j n v room b z h l =
     let s : Step = write j n v in
     let t = zero-taken c s z in
     let e = field-read c b j n v t in
-    let k = of-kind (productAt c j) room (fieldRule n ∷ rule 26 (v ≤? limit kind n) ∷ []) (t .kept) h in
+    let k = of-kind (productAt c j) room (setRules n v) (t .kept) h in
     let q : timeIn (next c s) j ≡ getD (set (fields (product c j) (listOf kind)) (n - 1) v) 8 0 = time-is (next c s) j ∙ ap (λ (x : List ℕ). getD x 8 0) e in
     given (next c s) j room _ (early c b s t refl room k (omega arith)) e
 
@@ -98,7 +99,7 @@ field-read-late c j n v room b z h l =
     let s : Step = write j n v in
     let t = zero-taken c s z in
     let e = field-read c b j n v t in
-    let k = of-kind (productAt c j) room (fieldRule n ∷ rule 26 (v ≤? limit kind n) ∷ []) (t .kept) h in
+    let k = of-kind (productAt c j) room (setRules n v) (t .kept) h in
     let q : timeIn (next c s) j ≡ getD (set (fields (product c j) (listOf kind)) (n - 1) v) 8 0 = time-is (next c s) j ∙ ap (λ (x : List ℕ). getD x 8 0) e in
     tardily c b s t refl room k (omega arith)
 

@@ -1,18 +1,19 @@
 -- A ticket read gives a number exactly when the row of that number says so: the rules are the rows, and the first that does not hold decides.
 -- Assumes nothing.
 use mathlib.Core.Path.{_≡_, refl, sym, ap, _∙_}
-use mathlib.Core.Logic.{_↔_, inl, inr, ⊎-elim}
+use mathlib.Core.Logic.{_↔_, ⊎-elim}
 use mathlib.Core.Bool.{Bool, true, false, true≢false}
-use mathlib.Core.List.{List}
-use Prim.Native.Nat.{ℕ, zero, suc, _*_, _≤_, _<_}
-use native.Mathlib.Decide.{ℕ-discrete}
+use mathlib.Core.List.{List, [], _∷_}
+use Prim.Native.Nat.{ℕ, zero, suc, _≤_, _<_}
 use native.Mathlib.Omega.{arith}
 use Rattle.bits.proofs.Laws.{lt-or-le}
-use Rattle.rules.specs.Claim.{Kept, Fails, here, later, first}
+use Rattle.rules.specs.Claim.{_≤?_, Rule, rule, Kept, Fails, here, later, first}
 use Rattle.rules.proofs.ClaimLaws as CL
 use Rattle.rules.proofs.ClaimLaws.{kept-fails, fails-one}
-use Rattle.ticket.specs.Kind.{kind, typ, revision, leastOf, limit}
+use Rattle.ticket.specs.Kind.{kind, limit}
 use Rattle.ticket.proofs.Limits.{limit-time}
+use Rattle.ticket.proofs.Rules.{same-kind, kind-same, in-extent, extent-in}
+use Rattle.ticket.proofs.Rows.{Row, row-kind, row-extent, row-rest, to-row, of-row}
 use Rattle.image.specs.Image.{isProduct}
 use Rattle.image.specs.Rules.{Verdict, verdict}
 use Rattle.image.specs.Obeys.{Obeys, Present}
@@ -40,36 +41,34 @@ not-late t h k = omega (arith, limit-time 9 refl)
 -- ---- the rules are the rows
 
 module _ (p : Product) (room time : ℕ) where
+  -- 24, after 22 and 23
+  abbrev last : List Rule
+  last = rule 24 (time ≤? limit kind 9) ∷ []
+
   rows-there : {n : ℕ} → Cause p room time n → Fails (ticketRules room time p) n
   rows-there (short h) = here (le-not h)
-  rows-there (other-kind a (inl h)) = later a (here h)
-  rows-there (other-kind a (inr h)) = rows-revision a h
-    where
-      rows-revision : p .size ≤ room → (p .revision ≡ revision → ⊥) → Fails (ticketRules room time p) 22
-      rows-revision a h = elim (ℕ-discrete (p .typ) typ) [ yes e ↦ later a (later e (here h)) | no d ↦ later a (here d) ]
-  rows-there (wrong-extent a b d (inl h)) = later a (later b (later d (here (le-not h))))
-  rows-there (wrong-extent a b d (inr h)) = rows-end a b d h
-    where
-      rows-end : p .size ≤ room → p .typ ≡ typ → p .revision ≡ revision → p .size < 4 * p .blocks → Fails (ticketRules room time p) 23
-      rows-end a b d h =
-          ⊎-elim (λ l. later a (later b (later d (here (le-not l))))) (λ l. later a (later b (later d (later l (here (le-not h))))))
-          (lt-or-le (4 * p .blocks) (leastOf kind))
-  rows-there (late a b d l s h) = later a (later b (later d (later l (later s (here (not-late time h))))))
+  rows-there (other-kind a o) = later a (of-row (p .typ) (p .revision) (p .blocks) (p .size) last (row-kind o))
+  rows-there (wrong-extent a o x) = later a (of-row (p .typ) (p .revision) (p .blocks) (p .size) last (row-extent o x))
+  rows-there (late a o x h) = later a (of-row (p .typ) (p .revision) (p .blocks) (p .size) last (row-rest o x (here (not-late time h))))
 
   rows-back : {n : ℕ} → Fails (ticketRules room time p) n → Cause p room time n
   rows-back (here h) = short (not-le (p .size) room h)
-  rows-back (later a (here h)) = other-kind a (inl h)
-  rows-back (later a (later b (here h))) = other-kind a (inr h)
-  rows-back (later a (later b (later d (here h)))) = wrong-extent a b d (inl (not-le (leastOf kind) (4 * p .blocks) h))
-  rows-back (later a (later b (later d (later l (here h))))) = wrong-extent a b d (inr (not-le (4 * p .blocks) (p .size) h))
-  rows-back (later a (later b (later d (later l (later s (here h)))))) = late a b d l s (late-not time h)
+  rows-back (later a f) = go (to-row (p .typ) (p .revision) (p .blocks) (p .size) last f)
+    where
+      go : {n : ℕ} → Row (p .typ) (p .revision) (p .blocks) (p .size) last n → Cause p room time n
+      go (row-kind o) = other-kind a o
+      go (row-extent o x) = wrong-extent a o x
+      go (row-rest o x (here h)) = late a o x (late-not time h)
 
   fine-kept : Fine p room time → Kept (ticketRules room time p)
-  fine-kept f = (f .roomy, (f .of-typ, (f .of-revision, (f .least, (f .in-product, (omega (arith, f .in-day, limit-time 9 refl), tt))))))
+  fine-kept f =
+      let k = kind-same (p .typ) (p .revision) (f .of-kind) in
+      let e = extent-in (p .blocks) (p .size) (f .in-extent) in
+      (f .roomy, (k .0, (k .1, (e .0, (e .1, (omega (arith, f .in-day, limit-time 9 refl), tt))))))
 
   kept-fine : Kept (ticketRules room time p) → Fine p room time
   kept-fine k =
-      record { roomy = k .0; of-typ = k .1 .0; of-revision = k .1 .1 .0; least = k .1 .1 .1 .0; in-product = k .1 .1 .1 .1 .0; in-day = omega (arith, k .1 .1 .1 .1 .1 .0, limit-time 9 refl) }
+      record { roomy = k .0; of-kind = same-kind (p .typ) (p .revision) (k .1 .0) (k .1 .1 .0); in-extent = in-extent (p .blocks) (p .size) (k .1 .1 .1 .0) (k .1 .1 .1 .1 .0); in-day = omega (arith, k .1 .1 .1 .1 .1 .0, limit-time 9 refl) }
 
   -- what the first of the rules that fails says
   data Told : ℕ → Type 0 where
@@ -102,8 +101,8 @@ module _ (p : Product) (room time : ℕ) where
 cause-some : {p : Product} {room time n : ℕ} → Cause p room time n → 1 ≤ n
 cause-some (short h) = omega arith
 cause-some (other-kind a h) = omega arith
-cause-some (wrong-extent a b d h) = omega arith
-cause-some (late a b d l s h) = omega arith
+cause-some (wrong-extent a o x) = omega arith
+cause-some (late a o x h) = omega arith
 
 named-some : (n j : ℕ) → 1 ≤ n → named n j ≡ record { number = n; entry = j }
 named-some zero j h = absurd (omega arith)

@@ -1,6 +1,6 @@
 -- What is known once an entry is found in an accepted image: it is a product, its chain is whole, and what was found of it is its own.
 -- Assumes nothing.
-use mathlib.Core.Path.{_≡_, refl, sym}
+use mathlib.Core.Path.{_≡_, sym}
 use mathlib.Core.Bool.{Bool, true, false}
 use mathlib.Core.List.{List}
 use Prim.Native.Nat.{ℕ, zero, suc, _+_, _-_, _≤_, _<_}
@@ -19,7 +19,9 @@ use Rattle.image.specs.Found.{foundIn, foundOf}
 use Rattle.image.specs.declared.Shape.{Shape}
 use Rattle.image.specs.declared.Found.the-variants as F
 use Rattle.image.proofs.Accepted.{Open, accepted-open}
-use Rattle.image.proofs.Exact.{test-product, product-sector}
+use Rattle.image.proofs.Exact.{test-product}
+use Rattle.image.proofs.First.{sectors-head}
+use Rattle.image.proofs.Places.{own-sector}
 use Rattle.image.proofs.Stays.{chain-of}
 use Rattle.image.specs.Obeys.{Present}
 
@@ -35,12 +37,6 @@ known-at c j z t =
     let o = accepted-open c (shapeOf c) (rw z) in
     record { opened = o; is-there = t; there = record { obeys = o .obeys; is-product = test-product c j t } }
 
--- what was found there: the shape g, n sectors and the mark m
-pub record Told (c : List ℕ) (j : ℕ) (g : Shape) (n m : ℕ) : Type 0 where
-  pub known : Known c g j
-  pub count-is : n ≡ length (sectors c j)
-  pub mark-is : m ≡ mark c j
-
 -- a call whose verdict is v is refused with the number n and the entry e
 pub record Barred (v : Verdict) (n e : ℕ) : Type 0 where
   pub number-is : v .number ≡ n
@@ -48,21 +44,7 @@ pub record Barred (v : Verdict) (n e : ℕ) : Type 0 where
   pub some : n ≡ 0 → ⊥
 
 module _ (c : List ℕ) (j : ℕ) where
-  pub found-there : {g : Shape} {l n m : ℕ} → foundOf c j ≡ F.There g l n m → Told c j g n m
-  unfolding foundOf seen
-  found-there {g} {l} {n} {m} q = go (verdict c .number) refl (isProduct c j) refl q
-    where
-      go : (v : ℕ) → verdict c .number ≡ v → (b : Bool) → isProduct c j ≡ b
-          → foundIn (seenBy v (verdict c .entry) b (productAt c j)) c j ≡ F.There g l n m → Told c j g n m
-      go (suc v) z b t w = absurd (let y : _≡_ {A = ℕ} 0 1 = cc in omega arith)
-      go zero z false t w = absurd (let y : _≡_ {A = ℕ} 0 1 = cc in omega arith)
-      go zero z true t w =
-          let e : shapeOf c ≡ g = cc in
-          let a : n ≡ length (sectors c j) = cc in
-          let b : m ≡ mark c j = cc in
-          record { known = rw e at (known-at c j z t); count-is = a; mark-is = b }
-
-  -- whatever is asked of the product besides
+  -- nothing is found, whatever is asked of the product besides
   pub found-not : {n e : ℕ} → foundOf c j ≡ F.Not n e → (rs : Product → List Rule) → Barred (asked c j rs) n e
   unfolding foundOf asked seen
   found-not {n} {e} q rs = go (verdict c .number) (isProduct c j) q
@@ -82,9 +64,6 @@ module _ (c : List ℕ) (j : ℕ) where
 -- ---- the sectors of a product, by their number in its chain
 
 module _ {c : List ℕ} {j : ℕ} (t : Present c j) where
-  pub there-sector : Sector (S c) j
-  there-sector = product-sector c (t .obeys .entries .1) (t .is-product)
-
   pub there-chain : Chain (element c) (S c) j (sectors c j) (mark c j)
   there-chain = chain-of c (t .obeys) (t .is-product)
 
@@ -92,10 +71,13 @@ module _ {c : List ℕ} {j : ℕ} (t : Present c j) where
   there-start = chain-first (element c) (S c) there-chain
 
   pub there-at : (k : ℕ) → k < length (sectors c j) → Sector (S c) (getD (sectors c j) k 0)
-  there-at = chain-sector (element c) (S c) there-chain there-sector
+  there-at = chain-sector (element c) (S c) there-chain (own-sector t)
 
   pub there-next : (k : ℕ) → k + 1 < length (sectors c j) → element c (getD (sectors c j) k 0) ≡ getD (sectors c j) (k + 1) 0
   there-next k h = sym (chain-next (element c) (S c) there-chain k h)
 
+  pub there-some : 1 ≤ length (sectors c j)
+  there-some = let r = sectors-head (there-chain .leads) in rw (r .1) (omega arith)
+
   pub there-few : length (sectors c j) ≤ S c - 3
-  there-few = chain-short (element c) (S c) there-sector there-chain
+  there-few = chain-short (element c) (S c) (own-sector t) there-chain

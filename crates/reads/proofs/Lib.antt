@@ -1,9 +1,9 @@
 pub mod Given
 pub mod Counted
+pub mod Copied
 pub mod Asked
 pub mod Known
 pub mod Places
-pub mod Sectors
 pub mod Passed
 pub mod Exactly
 pub mod Values

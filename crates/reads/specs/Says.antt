@@ -1,9 +1,7 @@
 -- When a ticket read is refused, and with which number: a constructor for each row of document 01's table, in its words and order. Assumes nothing.
-use mathlib.Core.Path.{_≡_}
-use mathlib.Core.Logic.{_≢_, _⊎_}
 use mathlib.Core.List.{List}
-use Prim.Native.Nat.{ℕ, _*_, _≤_, _<_}
-use Rattle.ticket.specs.Kind.{kind, typ, revision, leastOf}
+use Prim.Native.Nat.{ℕ, _≤_, _<_}
+use Rattle.ticket.specs.Kind.{OtherKind, WrongExtent}
 use Rattle.image.specs.Obeys as image
 use Rattle.image.specs.Obeys.{Obeys, IsProduct, Present}
 use Rattle.image.specs.Product.{Product, productAt}
@@ -14,21 +12,17 @@ pub data Cause (p : Product) (room time : ℕ) : ℕ → Type 0 where
   -- 21: lent buffer shorter than the product
   short : room < p .size → Cause p room time 21
   -- 22: TYP not 23, or revision not 2
-  other-kind : p .size ≤ room → (p .typ ≢ typ) ⊎ (p .revision ≢ revision) → Cause p room time 22
+  other-kind : p .size ≤ room → OtherKind (p .typ) (p .revision) → Cause p room time 22
   -- 23: 4 × IPELength under 32 or beyond the product
-  wrong-extent : p .size ≤ room → p .typ ≡ typ → p .revision ≡ revision → (4 * p .blocks < leastOf kind) ⊎ (p .size < 4 * p .blocks)
-      → Cause p room time 23
+  wrong-extent : p .size ≤ room → (OtherKind (p .typ) (p .revision) → ⊥) → WrongExtent (p .blocks) (p .size) → Cause p room time 23
   -- 24: ExpiryTime read is 1,440 or more
-  late : p .size ≤ room → p .typ ≡ typ → p .revision ≡ revision → leastOf kind ≤ 4 * p .blocks → 4 * p .blocks ≤ p .size → 1440 ≤ time
-      → Cause p room time 24
+  late : p .size ≤ room → (OtherKind (p .typ) (p .revision) → ⊥) → (WrongExtent (p .blocks) (p .size) → ⊥) → 1440 ≤ time → Cause p room time 24
 
 -- none of 21 to 24 holds; nothing is asked of the mark
 pub record Fine (p : Product) (room time : ℕ) : Type 0 where
   pub roomy : p .size ≤ room
-  pub of-typ : p .typ ≡ typ
-  pub of-revision : p .revision ≡ revision
-  pub least : leastOf kind ≤ 4 * p .blocks
-  pub in-product : 4 * p .blocks ≤ p .size
+  pub of-kind : OtherKind (p .typ) (p .revision) → ⊥
+  pub in-extent : WrongExtent (p .blocks) (p .size) → ⊥
   pub in-day : time < 1440
 
 -- the read of entry j into a buffer of `room` bytes gives the number n and names the entry e

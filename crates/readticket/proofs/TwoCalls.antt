@@ -2,7 +2,7 @@
 -- Assumes nothing.
 use mathlib.Core.Path.{_≡_, refl, _∙_}
 use mathlib.Core.List.{List, [], _∷_}
-use Prim.Native.Nat.{ℕ, zero, suc, _+_, _-_, _*_, _^_, _≤_, _<_}
+use Prim.Native.Nat.{ℕ, zero, suc, _+_, _-_, _^_, _≤_, _<_}
 use native.Mathlib.Omega.{arith}
 use lib.ListN.{length, take, drop, length-append, length-drop}
 use lib.Seq.{drop-append-le, take-append-le}
@@ -13,16 +13,18 @@ use Rattle.fields.specs.declared.Layout.the-variants.{Header}
 use Rattle.ticket.specs.Kind.{kind}
 use Rattle.image.specs.Image.{mark, sectors, product}
 use Rattle.image.specs.Product.{productAt}
-use Rattle.image.specs.Shape.{Shaped}
+use Rattle.image.specs.Shape.{Shaped, sectorPlace}
+use Rattle.image.specs.declared.Shape.{Shape}
 use Rattle.reads.specs.Ticket.{refusal, endOf, readTicket, bufferAfter, extent, filledBy, fillOf, restBy, rest, restAt}
 use Rattle.reads.specs.declared.TicketRead.{TicketRead}
-use Rattle.readchecks.specs.declared.Sound.{Sound}
+use Rattle.readticket.specs.declared.checks.Sound.{Sound}
 use Rattle.reads.specs.declared.Filled.the-variants.{End, Refused}
 use Rattle.reads.proofs.Given.{value-refused, values-refused}
 use Rattle.reads.proofs.Known.{Barred}
 use Rattle.reads.proofs.Passed.{passed}
-use Rattle.reads.proofs.Sectors.{start-in}
-use Rattle.readchecks.proofs.Taken.{Taking}
+use Rattle.image.proofs.Shapes.{sector-is}
+use Rattle.image.proofs.Places.{from-is, sector-in, own-sector, fields-first}
+use Rattle.readticket.proofs.Taken.{Taking}
 
 abbrev answer : ℕ → ℕ → List ℕ → List ℕ → ℕ → ℕ → ℕ → TicketRead
 answer n e h v d m s = record { number = n; entry = e; header = h; values = v; end = d; mark = m; sectors = s }
@@ -34,12 +36,16 @@ filled-refused (suc n) e x h = refl
 module _ (c : List ℕ) (j room : ℕ) where
   -- taken
   module _ {f : Sound} (k : Taking c j room f) where
-    pub sound-shape : Shaped c (f .shape)
-    sound-shape = rw (k .sound-is) (k .known .opened .shape)
-
     -- the product's first thirty-two bytes lie within the image
-    pub start-within : (4 + j * f .shape .size + 32 ≤ length c) × (length c ≤ 65029)
-    start-within = (start-in sound-shape (k .known .there), sound-shape .in-bounds .length-top)
+    pub start-within : {g : Shape} → Shaped c g → (j ≤ 255) × (g .size ≤ 255) × (sectorPlace g j + 32 ≤ length c)
+    start-within q =
+        let b = q .in-bounds in
+        let u = own-sector (k .known .there) in
+        (omega (arith, u .high), omega (arith, q .size-is), omega (arith, sector-in q j u, q .size-is))
+
+    -- and its fields are those that start there
+    pub start-fields : {g : Shape} → Shaped c g → fields (take (length c - sectorPlace g j) (drop (sectorPlace g j) c)) (listOf kind) ≡ fields (product c j) (listOf kind)
+    start-fields {g} q = rw (from-is c (sectorPlace g j), sector-is q j) (fields-first (k .known .there) kind (omega arith))
 
     pub day-below : f .day < 2 ^ 14
     day-below = rw (k .sound-is) (field-below _ 26 14 14 (omega arith))

@@ -1,24 +1,33 @@
 // Reading a ticket: the checks, and then the copy into the lent buffer. Refused, a call gives the number, the entry and zeros in all else, and
 // the buffer keeps its bytes.
-use readchecks::Judged;
+mod checks;
+mod copy;
+
+use checks::Judged;
 use reads::Filled;
 use reads::TicketRead;
 ghost use mathlib.Core.Path.{_≡_};
 ghost use Prim.Native.Nat.{_+_};
 ghost use lib.ListN.{length};
 ghost use Rattle.reads.specs.Ticket.{readTicket, fillOf, bufferAfter, rest, restAt};
-ghost use Rattle.readchecks.specs.Checks.{judgedIn};
+ghost use Rattle.readticket.specs.Checks.{judgedIn};
 
 // Copies the product of a ticket that has passed the checks into the buffer.
 fn take(image: &[u8], entry: usize, buffer: &mut [u8]) -> Judged
     ensures { λ r. ⌜ r ≡ judgedIn (now (image .entry)) entry (length (now (buffer .entry))) ⌝ }
     ensures { λ _. ⌜ now (buffer .exit) ≡ bufferAfter (now (image .entry)) entry (now (buffer .entry)) ⌝ }
 {
-    let judged = readchecks::judge(image, entry, buffer.len());
+    let judged = checks::judge(image, entry, buffer.len());
     let Judged::Taken(sound) = judged else {
         return judged;
     };
-    copies::copy_product(image, sound.shape, entry, sound.sectors, buffer);
+    copy::copy_product(
+        image,
+        verdict::shape_of(image),
+        entry,
+        sound.sectors,
+        buffer,
+    );
     judged
 }
 
@@ -29,7 +38,7 @@ pub fn read_ticket(image: &[u8], entry: usize, buffer: &mut [u8]) -> TicketRead
 {
     match take(image, entry, buffer) {
         Judged::Taken(sound) => {
-            let start = 4 + entry * sound.shape.size;
+            let start = image::sector_at(verdict::shape_of(image), entry);
             let first = &image[start..];
             let record = ticket::record_in(first);
             let values = record.values;

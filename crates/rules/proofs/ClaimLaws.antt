@@ -1,14 +1,14 @@
 -- A claim's test is true exactly where it is so, and `first` finds exactly the first rule that fails. Assumes nothing.
-use mathlib.Core.Path.{_≡_, refl, sym, subst, _∙_, ap}
-use mathlib.Core.Logic.{_↔_, _≢_, _⊎_, inl, inr, ⊎-elim}
-use mathlib.Core.Bool.{Bool, true, false, _&&_, true≢false, false≢true}
+use mathlib.Core.Path.{_≡_, refl, sym, subst, _∙_}
+use mathlib.Core.Logic.{_↔_}
+use mathlib.Core.Bool.{Bool, true, false, _&&_, not, cond, true≢false, false≢true}
 use mathlib.Core.List.{List, [], _∷_, _++_}
-use Prim.Native.Nat.{ℕ, zero, suc, _+_, _≤_, _<_}
+use Prim.Native.Nat.{ℕ, zero, suc, _≤_, _<_}
 use native.Mathlib.Omega.{arith}
 use native.Mathlib.Decide.{decLt}
-use lib.Dec.{eqb, leb}
-use borrow.Author.Tests.{eqb-true, eq-eqb, leb-true, le-leb}
-use Rattle.rules.specs.Claim.{Claim, _≡?_, _≤?_, _and_, every, Means, all, holds, Rule, rule, Kept, Fails, here, later, unless, first, KeptBelow, Unkept, this, other}
+use lib.Dec.{eqb}
+use borrow.Author.Tests.{eqb-true, eq-eqb, leb-true, le-leb, not-true}
+use Rattle.rules.specs.Claim.{Claim, _≡?_, _≤?_, _and_, every, Means, all, holds, Rule, rule, Kept, Fails, here, later, unless, first, rowsBefore, rowOf, FailsRow}
 
 pub and-true : (a b : Bool) → (a && b) ≡ true → (a ≡ true) × (b ≡ true)
 and-true true b e = (refl, e)
@@ -95,37 +95,79 @@ first-append (r ∷ rs) ss h = go (holds (r .claim)) (r .number) (h .0) (first-a
     go false zero a e = absurd (omega arith)
     go false (suc n) a e = refl
 
--- ---- a list whose numbers never fall
+-- a part fails, or it is kept and one after it fails
+pub fails-in : {n : ℕ} {rs : List Rule} (ss : List Rule) → Fails rs n → Fails (rs ++ ss) n
+fails-in ss (here b) = here b
+fails-in ss (later m f) = later m (fails-in ss f)
 
-abbrev pub Rising : ℕ → List Rule → Type 0
-Rising k [] = Unit {0}
-Rising k (r ∷ rs) = (k ≤ r .number) × Rising (r .number) rs
+pub fails-after : {n : ℕ} (rs : List Rule) {ss : List Rule} → Kept rs → Fails ss n → Fails (rs ++ ss) n
+fails-after [] k f = f
+fails-after (r ∷ rs) k f = later (k .0) (fails-after rs (k .1) f)
 
-none-below : (n k : ℕ) (rs : List Rule) → n ≤ k → Rising k rs → KeptBelow n rs
-none-below n k [] l h = tt
-none-below n k (r ∷ rs) l h = ((λ w. absurd (omega (arith, h .0))), none-below n (r .number) rs (omega (arith, h .0)) (h .1))
+pub kept-both : (rs ss : List Rule) → Kept rs → Kept ss → Kept (rs ++ ss)
+kept-both [] ss k l = l
+kept-both (r ∷ rs) ss k l = (k .0, kept-both rs ss (k .1) l)
 
-unkept-low : {n : ℕ} (k : ℕ) {rs : List Rule} → Unkept n rs → Rising k rs → k ≤ n
-unkept-low k (this e b) h = omega (arith, h .0)
-unkept-low k (other {r = r} u) h = omega (arith, h .0, unkept-low (r .number) u (h .1))
+-- ---- rows: rules of one number stand together
 
-row-there : {n : ℕ} (k : ℕ) {rs : List Rule} → Fails rs n → Rising k rs → KeptBelow n rs × Unkept n rs
-row-there k (here {r = r} {rs = rs} b) h =
-    (((λ w. absurd (omega arith)), none-below (r .number) (r .number) rs (omega arith) (h .1)), this refl b)
-row-there k (later {r = r} m f) h = let t = row-there (r .number) f (h .1) in (((λ w. m), t .0), other (t .1))
+-- no rule has the number n
+abbrev pub absent : ℕ → List Rule → Bool
+absent n [] = true
+absent n (r ∷ rs) = not (eqb (r .number) n) && absent n rs
 
-row-back : {n : ℕ} (k : ℕ) {rs : List Rule} → Unkept n rs → Rising k rs → KeptBelow n rs → Fails rs n
-row-back {n} k (this {r = r} {rs = rs} e b) h l = subst (λ (m : ℕ). Fails (r ∷ rs) m) e (here b)
-row-back {n} k (other {r = r} {rs = rs} u) h l = go (holds (r .claim)) refl (row-back (r .number) u (h .1) (l .1))
+-- the next rule has the number n, or none has
+abbrev follows : ℕ → List Rule → Bool
+follows n [] = true
+follows n (r ∷ rs) = cond (eqb (r .number) n) true (absent n rs)
+
+abbrev pub together : List Rule → Bool
+together [] = true
+together (r ∷ rs) = follows (r .number) rs && together rs
+
+absent-row : (n : ℕ) (rs : List Rule) → absent n rs ≡ true → Kept (rowOf n rs)
+absent-row n [] e = tt
+absent-row n (r ∷ rs) e =
+    let p = and-true (not (eqb (r .number) n)) (absent n rs) e in
+    rw (not-true (eqb (r .number) n) (p .0)) (absent-row n rs (p .1))
+
+-- after a rule of row n: a rule of it comes next, or the row has ended
+follows-row : (n : ℕ) (rs : List Rule) → follows n rs ≡ true → (Kept (rowOf n rs) → ⊥) → Kept (rowsBefore n rs)
+follows-row n [] e h = tt
+follows-row n (r ∷ rs) e h = go (eqb (r .number) n) e h
   where
-    go : (b : Bool) → holds (r .claim) ≡ b → Fails rs n → Fails (r ∷ rs) n
-    go true e f = later (holds-means (r .claim) e) f
-    go false e f =
-        let b = false-means (r .claim) e in
-        let x : ¬ (r .number < n) = λ w. b (l .0 w) in
-        let y : r .number ≡ n = omega (arith, unkept-low (r .number) u (h .1)) in
-        subst (λ (m : ℕ). Fails (r ∷ rs) m) y (here b)
+    go : (b : Bool) → cond b true (absent n rs) ≡ true → (Kept (cond b (r ∷ rowOf n rs) (rowOf n rs)) → ⊥) → Kept (cond b [] (r ∷ rowsBefore n rs))
+    go true e h = tt
+    go false e h = absurd (h (absent-row n rs e))
 
--- the first to fail has the number n exactly where a rule of that number is not kept, and every rule of a lower number is
-pub fails-row : (n k : ℕ) (rs : List Rule) → Rising k rs → Fails rs n ↔ (KeptBelow n rs × Unkept n rs)
-fails-row n k rs h = ((λ f. row-there k f h), λ p. row-back k (p .1) h (p .0))
+row-there : {n : ℕ} {rs : List Rule} → Fails rs n → FailsRow n rs
+row-there (here {r = r} b) = rw (eq-eqb (r .number) (r .number) refl) (tt, λ k. b (k .0))
+row-there {n} (later {r = r} {rs = rs} m f) = go (eqb (r .number) n) (row-there f)
+  where
+    go : (b : Bool) → FailsRow n rs → Kept (cond b [] (r ∷ rowsBefore n rs)) × (Kept (cond b (r ∷ rowOf n rs) (rowOf n rs)) → ⊥)
+    go true p = (tt, λ k. p .1 (k .1))
+    go false p = ((m, p .0), p .1)
+
+pub fails-absent : {n : ℕ} {rs : List Rule} → Fails rs n → absent n rs ≡ true → ⊥
+fails-absent {n} {rs} f e = row-there f .1 (absent-row n rs e)
+
+row-back : (n : ℕ) (rs : List Rule) → together rs ≡ true → FailsRow n rs → Fails rs n
+row-back n [] t p = absurd (p .1 tt)
+row-back n (r ∷ rs) t p =
+    let q = and-true (follows (r .number) rs) (together rs) t in
+    go (row-back n rs (q .1)) (q .0) (eqb (r .number) n) refl p
+  where
+    own : (FailsRow n rs → Fails rs n) → follows n rs ≡ true → r .number ≡ n → (Kept (r ∷ rowOf n rs) → ⊥) → (b : Bool) → holds (r .claim) ≡ b → Fails (r ∷ rs) n
+    own back w q k true e =
+        let m = holds-means (r .claim) e in
+        let z : Kept (rowOf n rs) → ⊥ = λ l. k (m, l) in
+        later m (back (follows-row n rs w z, z))
+    own back w q k false e = subst (λ (x : ℕ). Fails (r ∷ rs) x) q (here (false-means (r .claim) e))
+
+    go : (FailsRow n rs → Fails rs n) → follows (r .number) rs ≡ true → (b : Bool) → eqb (r .number) n ≡ b
+        → Kept (cond b [] (r ∷ rowsBefore n rs)) × (Kept (cond b (r ∷ rowOf n rs) (rowOf n rs)) → ⊥) → Fails (r ∷ rs) n
+    go back w true e k = let q = eqb-true (r .number) n e in own back (rw q at w) q (k .1) (holds (r .claim)) refl
+    go back w false e k = later (k .0 .0) (back (k .0 .1, k .1))
+
+-- the first to fail has the number n exactly where row n says so and every row before it holds
+pub fails-row : (n : ℕ) (rs : List Rule) → together rs ≡ true → Fails rs n ↔ FailsRow n rs
+fails-row n rs t = (row-there, row-back n rs t)

@@ -1,6 +1,6 @@
 -- What `first` gives back, exactly: 0 where every rule is kept, and n where the first that is not kept has the number n. Both follow
 -- from `found`, since no list keeps all its rules and fails one. Assumes nothing.
-use mathlib.Core.Path.{_≡_, refl, sym, subst}
+use mathlib.Core.Path.{_≡_, refl, subst}
 use mathlib.Core.Logic.{_↔_}
 use mathlib.Core.List.{List}
 use Prim.Native.Nat.{ℕ, _≤_}

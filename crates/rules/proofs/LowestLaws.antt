@@ -46,3 +46,12 @@ module _ (n : ℕ) (t : ℕ → Bool) where
       go : {r : ℕ} → Found-lowest n t r → 0 ≡ r
       go (nowhere f) = refl
       go (somewhere {r = r} l u p f) = absurd (h r (omega arith) l p)
+
+  -- where there is none, k does not pass
+  pub none-lowest : 0 ≡ lowest n t → (k : ℕ) → 1 ≤ k → k ≤ n → t k ≡ false
+  none-lowest z k a b = go (lowest-is n t) z (t k) refl
+    where
+      go : {r : ℕ} → Found-lowest n t r → 0 ≡ r → (x : Bool) → t k ≡ x → x ≡ false
+      go (nowhere f) z true e = absurd (f k a b e)
+      go (somewhere l u p f) z true e = absurd (omega arith)
+      go w z false e = refl

@@ -1,4 +1,4 @@
 pub mod Dataset
-pub mod Digits
+pub mod DigitLaws
 pub mod Round
 pub mod Rules

@@ -15,7 +15,7 @@ use Rattle.fields.specs.Fields.{fields, stores}
 use Rattle.fields.specs.Lists as lists
 use Rattle.fields.specs.declared.Layout.the-variants as layout
 use Rattle.fields.proofs.Joined.{lists-joined}
-use Rattle.fields.proofs.Laws.{fields-stores, stores-onto, bytes-stores, bit-stores-out}
+use Rattle.fields.proofs.Laws.{fields-stores, stores-onto, bit-stores-out}
 use Rattle.fields.proofs.Same.{fields-same, fields-front}
 use Rattle.rules.specs.Claim.{Kept, Fails}
 use Rattle.rules.specs.declared.Written.{Written}
@@ -49,10 +49,6 @@ encode-unique vs l p q = (p .0 ∙ sym (q .0), p .1 ∙ sym (q .1))
 crc-small : (l : List ℕ) → crc l < 65536
 unfolding crc
 crc-small l = omega arith
-
-bytes-body : (vs : List ℕ) → Bytes (bodyOf vs)
-unfolding bodyOf
-bytes-body vs = bytes-stores (replicate (datasetOf vs - 2) 0) lists.shell vs (bytes-zeros (datasetOf vs - 2))
 
 bit-body : (vs : List ℕ) (i : ℕ) → 160 ≤ i → bit (bodyOf vs) i ≡ 0
 unfolding bodyOf
@@ -121,9 +117,6 @@ module _ (vs l : List ℕ) (k : encodeNumber vs (length l) ≡ 0) where
   -- the buffer holds the dataset, and later bytes stay
   pub encoded : encodeIn vs l ≡ dataset vs ++ drop (datasetOf vs) l
   encoded = rw k
-
-  pub dataset-first : take (datasetOf vs) (encodeIn vs l) ≡ dataset vs
-  dataset-first = ap (take (datasetOf vs)) encoded ∙ take-at (dataset vs) (drop (datasetOf vs) l) (datasetOf vs) (length-dataset vs (taken vs (length l) k .enough))
 
   pub later-stays : drop (datasetOf vs) (encodeIn vs l) ≡ drop (datasetOf vs) l
   later-stays = ap (drop (datasetOf vs)) encoded ∙ drop-at (dataset vs) (drop (datasetOf vs) l) (datasetOf vs) (length-dataset vs (taken vs (length l) k .enough))

@@ -1,22 +1,20 @@
--- What the tests of the encoder say: each is the test of its rule, so that the first that fails is `encodeNumber`. Assumes nothing.
-use mathlib.Core.Path.{_≡_}
-use mathlib.Core.Bool.{Bool, true, false}
-use mathlib.Core.List.{List}
+-- What the encoder's tests say: its rules are judged part by part, and where it stops is `encodeNumber`. Assumes nothing.
+use mathlib.Core.Path.{_≡_, sym, _∙_}
+use mathlib.Core.Logic.{_≢_}
+use mathlib.Core.Bool.{true, false}
+use mathlib.Core.List.{List, [], _∷_, _++_}
 use Prim.Native.Nat.{ℕ, _^_, _≤_, _<_}
 use native.Mathlib.Omega.{arith}
-use lib.Dec.{eqb, leb}
 use Rattle.fields.specs.Fields.{fit}
 use Rattle.fields.specs.Lists as lists
-use Rattle.rules.specs.Claim.{holds, unless, first}
-use Rattle.rules.proofs.ClaimLaws.{Numbered, holds-means}
-use Rattle.rules.proofs.First.{kept-of-first}
-use Rattle.shell.proofs.Digits.{fewer}
-use Rattle.shell.specs.Shell.{ShellLength, ShellBitMap, IIN, ISSN, CHD, datasetOf, decimal}
+use Rattle.rules.specs.Claim.{_≤?_, holds, Rule, rule, Fails, here, later, first}
+use Rattle.rules.proofs.ClaimLaws.{Numbered, holds-means, false-means, fails-in, fails-after, kept-both}
+use Rattle.rules.proofs.First.{kept-of-first, first-of-kept, fails-of-first, first-of-fails}
+use Rattle.shell.specs.Shell.{ShellLength, ShellBitMap, IIN, ISSN, CHD, datasetOf, formRules, digitRules}
 use Rattle.shell.specs.Encode.{encodeRules, encodeNumber}
 
 pub numbered : (vs : List ℕ) (room : ℕ) → Numbered (encodeRules vs room)
-numbered vs room =
-    (omega arith, (omega arith, (omega arith, (omega arith, (omega arith, (omega arith, (omega arith, tt)))))))
+numbered vs room = omega arith
 
 -- what is known of values that fit their places
 pub record Narrow (vs : List ℕ) : Type 0 where
@@ -30,25 +28,47 @@ narrow vs e =
     let m = holds-means (fit lists.shell vs) e in
     record { length-fits = omega (arith, m 0 (omega arith)); iin-fits = omega (arith, m 3 (omega arith)); issn-fits = omega (arith, m 5 (omega arith)); chd-fits = omega (arith, m 6 (omega arith)) }
 
-pub judged : (vs : List ℕ) (room : ℕ) {a b c d e n : ℕ} {p q r : Bool} → holds (fit lists.shell vs) ≡ true
-    → a ≡ unless (leb (datasetOf vs) room) 0 21
-    → p ≡ holds (decimal 8 (CHD vs)) → b ≡ unless p a 8
-    → q ≡ holds (decimal 8 (ISSN vs)) → c ≡ unless q b 8
-    → r ≡ holds (decimal 8 (IIN vs)) → d ≡ unless r c 8
-    → e ≡ unless (leb 22 (datasetOf vs)) d 5
-    → n ≡ unless (eqb (ShellBitMap vs) 0) e 5
-    → n ≡ encodeNumber vs room
-unfolding encodeNumber first
-judged vs room f ea ep eb eq ec er ed ee en =
-    let n = narrow vs f in
-    let chd = fewer 1 (CHD vs) (omega arith) (n .chd-fits) in
-    let issn = fewer 7 (ISSN vs) (omega arith) (n .issn-fits) in
-    let iin = fewer 6 (IIN vs) (omega arith) (n .iin-fits) in
-    rw (f, en, ee, ed, er, iin, ec, eq, issn, eb, ep, chd, ea)
+-- ---- the first of the rules that fails, part by part
 
-pub wide : (vs : List ℕ) (room : ℕ) → holds (fit lists.shell vs) ≡ false → 26 ≡ encodeNumber vs room
-unfolding encodeNumber first
-wide vs room f = rw f
+module _ (vs : List ℕ) (room : ℕ) where
+  abbrev form : List Rule
+  form = formRules (ShellBitMap vs) (datasetOf vs)
+
+  abbrev digit : List Rule
+  digit = digitRules (IIN vs) (ISSN vs) (CHD vs)
+
+  stops : {n : ℕ} → Fails (encodeRules vs room) n → n ≡ encodeNumber vs room
+  unfolding encodeNumber
+  stops {n} f = sym (first-of-fails (encodeRules vs room) (numbered vs room) n f)
+
+  pub wide : holds (fit lists.shell vs) ≡ false → 26 ≡ encodeNumber vs room
+  wide f = stops (here (false-means (fit lists.shell vs) f))
+
+  module _ (f : holds (fit lists.shell vs) ≡ true) where
+    pub at-form : {n : ℕ} → n ≡ first form → n ≢ 0 → n ≡ encodeNumber vs room
+    at-form {n} e z =
+        stops (later (holds-means (fit lists.shell vs) f) (fails-in _ (fails-of-first form (omega arith) n (omega arith) (sym e))))
+
+    module _ {n : ℕ} (e : n ≡ first form) (z : n ≡ 0) where
+      after-form : {k : ℕ} → Fails (digit ++ (rule 21 (datasetOf vs ≤? room) ∷ [])) k → k ≡ encodeNumber vs room
+      after-form g =
+          stops (later (holds-means (fit lists.shell vs) f) (fails-after form (kept-of-first form (omega arith) (sym e ∙ z)) g))
+
+      pub at-digit : {k : ℕ} → k ≡ first digit → k ≢ 0 → k ≡ encodeNumber vs room
+      at-digit {k} d y = after-form (fails-in _ (fails-of-first digit (omega arith) k (omega arith) (sym d)))
+
+      module _ {k : ℕ} (d : k ≡ first digit) (y : k ≡ 0) where
+        pub at-room : room < datasetOf vs → 21 ≡ encodeNumber vs room
+        at-room l = after-form (fails-after digit (kept-of-first digit (omega arith) (sym d ∙ y)) (here (λ m. omega arith)))
+
+        pub at-end : datasetOf vs ≤ room → 0 ≡ encodeNumber vs room
+        unfolding encodeNumber
+        at-end l =
+            sym (first-of-kept (encodeRules vs room) (numbered vs room) (
+              holds-means (fit lists.shell vs) f,
+              kept-both form (digit ++ (rule 21 (datasetOf vs ≤? room) ∷ [])) (kept-of-first form (omega arith) (sym e ∙ z))
+                  (kept-both digit (rule 21 (datasetOf vs ≤? room) ∷ []) (kept-of-first digit (omega arith) (sym d ∙ y)) (l, tt)),
+            ))
 
 -- what is known of the values that are taken
 pub record Taken (vs : List ℕ) (room : ℕ) : Type 0 where

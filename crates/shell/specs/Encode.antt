@@ -9,7 +9,7 @@ use Rattle.fields.specs.Lists as lists
 use Rattle.rules.specs.Claim.{_≤?_, Rule, rule, first}
 use Rattle.rules.specs.Written.{ifDone}
 use Rattle.shell.specs.declared.Shell.{Shell}
-use Rattle.shell.specs.Shell.{valuesIn, datasetOf, formRules, digitRules}
+use Rattle.shell.specs.Shell.{valuesIn, ShellBitMap, IIN, ISSN, CHD, datasetOf, formRules, digitRules}
 
 -- the sixteen values of twenty bytes
 abbrev pub decodeOf : List ℕ → Shell
@@ -17,7 +17,12 @@ decodeOf b = record { values = valuesIn b }
 
 -- the checks in order: 26 (a value too wide), 5, 8, and 21 (a buffer of `room` bytes is shorter than the dataset)
 abbrev pub encodeRules : List ℕ → ℕ → List Rule
-encodeRules vs room = packRules layout.Shell vs ++ (formRules vs ++ (digitRules vs ++ (rule 21 (datasetOf vs ≤? room) ∷ [])))
+encodeRules vs room =
+    packRules layout.Shell vs
+    ++ (formRules (ShellBitMap vs) (datasetOf vs)
+    ++ (digitRules (IIN vs) (ISSN vs) (CHD vs)
+    ++ (rule 21 (datasetOf vs ≤? room)
+    ∷ [])))
 
 unfoldable pub encodeNumber : List ℕ → ℕ → ℕ
 encodeNumber vs room = first (encodeRules vs room)

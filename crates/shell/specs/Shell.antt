@@ -47,13 +47,13 @@ datasetOf vs = 4 * ShellLength vs
 abbrev pub decimal : ℕ → ℕ → Claim
 decimal n v = every n λ i. v / 2 ^ (4 * i) % 16 ≤? 9
 
--- number 5: ShellBitMap not 0, or the dataset under 22 bytes
-abbrev pub formRules : List ℕ → List Rule
-formRules vs = rule 5 (ShellBitMap vs ≡? 0) ∷ rule 5 (22 ≤? datasetOf vs) ∷ []
+-- number 5, of ShellBitMap and the bytes of the dataset: the map not 0, or the dataset under 22 bytes
+abbrev pub formRules : ℕ → ℕ → List Rule
+formRules map bytes = rule 5 (map ≡? 0) ∷ rule 5 (22 ≤? bytes) ∷ []
 
 -- number 8, first half: a digit of IIN, ISSN or CHD above 9
-abbrev pub digitRules : List ℕ → List Rule
-digitRules vs = rule 8 (decimal 6 (IIN vs)) ∷ rule 8 (decimal 7 (ISSN vs)) ∷ rule 8 (decimal 1 (CHD vs)) ∷ []
+abbrev pub digitRules : ℕ → ℕ → ℕ → List Rule
+digitRules iin issn chd = rule 8 (decimal 6 iin) ∷ rule 8 (decimal 7 issn) ∷ rule 8 (decimal 1 chd) ∷ []
 
 -- ---- what follows the sixteen values in a dataset of n bytes
 

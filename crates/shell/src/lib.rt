@@ -1,15 +1,16 @@
 // The shell record: its sixteen values, and the dataset that holds them with zero padding and SECR.
-use fields::Eight;
 use fields::Layout;
+use rules::TOO_LARGE;
+use rules::WRONG_DIGIT;
+use rules::WRONG_ROOM;
+use rules::WRONG_SHELL;
 use rules::Written;
 ghost use mathlib.Core.Path.{_≡_};
 ghost use Prim.Native.Nat.{_-_, _*_, _^_, _≤_, _<_};
 ghost use lib.ListN.{length};
-ghost use Rattle.rules.specs.Claim.{holds};
+ghost use Rattle.rules.specs.Claim.{holds, first};
 ghost use Rattle.rules.specs.Written.{writtenOf};
-ghost use Rattle.fields.specs.Lists as lists;
-ghost use Rattle.fields.specs.Fields.{eightAt};
-ghost use Rattle.shell.specs.Shell.{datasetOf, decimal};
+ghost use Rattle.shell.specs.Shell.{datasetOf, decimal, formRules, digitRules};
 ghost use Rattle.shell.specs.Encode.{decodeOf, encodeNumber, bodyOf, dataset, encodeIn};
 
 // The sixteen values in the order of document 01.
@@ -17,6 +18,25 @@ ghost use Rattle.shell.specs.Encode.{decodeOf, encodeNumber, bodyOf, dat
 pub struct Shell {
     pub values: [u64; 16],
 }
+
+// Where some of them stand.
+pub const SHELL_LENGTH: usize = 0;
+
+pub const SHELL_BIT_MAP: usize = 1;
+
+pub const IIN: usize = 3;
+
+pub const ISSN: usize = 5;
+
+pub const CHD: usize = 6;
+
+pub const SECTOR_BYTES: usize = 12;
+
+pub const SECTOR_COUNT: usize = 13;
+
+pub const ENTRY_COUNT: usize = 14;
+
+pub const TABLE_LENGTH: usize = 15;
 
 // Whether the eight digits of four bits of which v is made are decimal: one is above 9 where its bit 8 stands with its bit 4 or its bit 2.
 pub fn decimal(v: u64) -> bool
@@ -26,38 +46,34 @@ pub fn decimal(v: u64) -> bool
     (v & (v << 1 | v << 2) & 0x8888_8888) == 0
 }
 
-// The values from ShellLength to FVC.
-fn front(s: &[u8]) -> Eight
-    requires { ⌜ 160 ≤ 8 * length (now s) ⌝ }
-    ensures { λ r. ⌜ r ≡ eightAt lists.shell 0 (now (s .entry)) ⌝ }
+// Number 5, of ShellBitMap and the bytes of the dataset; 0 where its rules are kept.
+pub fn form(map: u64, bytes: usize) -> usize
+    ensures { λ r. ⌜ r ≡ first (formRules map bytes) ⌝ }
 {
-    Eight(
-        fields::value(s, Layout::Shell, 0),
-        fields::value(s, Layout::Shell, 1),
-        fields::value(s, Layout::Shell, 2),
-        fields::value(s, Layout::Shell, 3),
-        fields::value(s, Layout::Shell, 4),
-        fields::value(s, Layout::Shell, 5),
-        fields::value(s, Layout::Shell, 6),
-        fields::value(s, Layout::Shell, 7),
-    )
+    if map != 0 {
+        return WRONG_SHELL;
+    }
+    if bytes < 22 {
+        return WRONG_SHELL;
+    }
+    0
 }
 
-// The values from KSC to SCTL.
-fn back(s: &[u8]) -> Eight
-    requires { ⌜ 160 ≤ 8 * length (now s) ⌝ }
-    ensures { λ r. ⌜ r ≡ eightAt lists.shell 8 (now (s .entry)) ⌝ }
+// Number 8 of the digits of IIN, ISSN and CHD; 0 where its rules are kept.
+pub fn digits(iin: u64, issn: u64, chd: u64) -> usize
+    requires { ⌜ (iin < 2 ^ 24) × (issn < 2 ^ 28) × (chd < 2 ^ 4) ⌝ }
+    ensures { λ r. ⌜ r ≡ first (digitRules iin issn chd) ⌝ }
 {
-    Eight(
-        fields::value(s, Layout::Shell, 8),
-        fields::value(s, Layout::Shell, 9),
-        fields::value(s, Layout::Shell, 10),
-        fields::value(s, Layout::Shell, 11),
-        fields::value(s, Layout::Shell, 12),
-        fields::value(s, Layout::Shell, 13),
-        fields::value(s, Layout::Shell, 14),
-        fields::value(s, Layout::Shell, 15),
-    )
+    if !decimal(iin) {
+        return WRONG_DIGIT;
+    }
+    if !decimal(issn) {
+        return WRONG_DIGIT;
+    }
+    if !decimal(chd) {
+        return WRONG_DIGIT;
+    }
+    0
 }
 
 // The values of the shell that starts with the slice.
@@ -65,28 +81,9 @@ pub fn shell_in(s: &[u8]) -> Shell
     requires { ⌜ 160 ≤ 8 * length (now s) ⌝ }
     ensures { λ r. ⌜ r ≡ decodeOf (now (s .entry)) ⌝ }
 {
-    let a = front(s);
-    let b = back(s);
-    Shell {
-        values: [
-            a.0,
-            a.1,
-            a.2,
-            a.3,
-            a.4,
-            a.5,
-            a.6,
-            a.7,
-            b.0,
-            b.1,
-            b.2,
-            b.3,
-            b.4,
-            b.5,
-            b.6,
-            b.7,
-        ],
-    }
+    let mut values = [0u64; 16];
+    fields::read(s, Layout::Shell, &mut values);
+    Shell { values: values }
 }
 
 // The values that the twenty bytes hold.
@@ -101,16 +98,22 @@ fn judge(v: &[u64], room: usize) -> usize
     requires { ⌜ length (now v) ≡ 16 ⌝ }
     ensures { λ r. ⌜ r ≡ encodeNumber (now (v .entry)) room ⌝ }
 {
-    if fields::all_fit(Layout::Shell, v) {
-        let size = 4 * (v[0] as usize);
-        let place = rules::need(rules::WRONG_ROOM, size <= room, 0);
-        let chd = rules::need(rules::WRONG_DIGIT, decimal(v[6]), place);
-        let issn = rules::need(rules::WRONG_DIGIT, decimal(v[5]), chd);
-        let iin = rules::need(rules::WRONG_DIGIT, decimal(v[3]), issn);
-        let length = rules::need(rules::WRONG_SHELL, 22 <= size, iin);
-        return rules::need(rules::WRONG_SHELL, v[1] == 0, length);
+    if !fields::all_fit(Layout::Shell, v) {
+        return TOO_LARGE;
     }
-    rules::TOO_LARGE
+    let bytes = 4 * (v[SHELL_LENGTH] as usize);
+    let shape = form(v[SHELL_BIT_MAP], bytes);
+    if shape != 0 {
+        return shape;
+    }
+    let digit = digits(v[IIN], v[ISSN], v[CHD]);
+    if digit != 0 {
+        return digit;
+    }
+    if room < bytes {
+        return WRONG_ROOM;
+    }
+    0
 }
 
 // The dataset before SECR: the sixteen values and zero padding.
@@ -141,7 +144,7 @@ pub fn encode(s: Shell, out: &mut [u8]) -> Written
     let v = s.values;
     let number = judge(&v, out.len());
     if number == 0 {
-        let extent = 4 * (v[0] as usize);
+        let extent = 4 * (v[SHELL_LENGTH] as usize);
         write_dataset(&mut out[..extent], &v);
         return Written::Done;
     }

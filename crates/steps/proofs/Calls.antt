@@ -4,25 +4,22 @@ use mathlib.Core.Path.{_≡_, refl, sym, _∙_}
 use mathlib.Core.Logic.{_≢_}
 use mathlib.Core.Bool.{Bool, true, false}
 use mathlib.Core.List.{List}
-use Prim.Native.Nat.{ℕ, zero, suc, _+_, _-_, _*_, _≤_}
-use native.Mathlib.Nat.{mul-le-mul}
+use Prim.Native.Nat.{ℕ, zero, suc, _≤_}
 use native.Mathlib.Omega.{arith}
-use lib.ListN.{length, take, drop, length-drop}
-use lib.Seq.{length-take-le}
+use lib.ListN.{length}
 use Rattle.chains.specs.Chain.{Sector, lastOf}
+use Rattle.chains.specs.Packed.{markSaid}
 use Rattle.rules.specs.Claim.{first}
-use Rattle.image.specs.Image.{S, sectorAt, isProduct, sectors, mark}
+use Rattle.image.specs.Image.{S, isProduct, element, sectors, mark}
 use Rattle.image.specs.Rules.{verdict}
-use Rattle.image.specs.Shape.{shapeOf, Shaped}
+use Rattle.image.specs.Shape.{Shaped}
 use Rattle.image.specs.Product.{productAt, seenBy, seen}
 use Rattle.image.specs.Found.{foundIn, foundOf}
 use Rattle.image.specs.declared.Shape.{Shape}
 use Rattle.image.specs.declared.Found.{Found}
-use Rattle.image.specs.declared.Found.the-variants.{There, Not}
-use Rattle.image.proofs.Exact.{test-product, product-test, accepts}
-use Rattle.image.proofs.Accepted.{obeys-bounds}
-use Rattle.image.proofs.Shapes.{shaped}
-use Rattle.image.proofs.Same.{before-directory}
+use Rattle.image.specs.declared.Found.the-variants.{Not}
+use Rattle.image.proofs.Exact.{product-test, accepts}
+use Rattle.image.proofs.Founds.{Finds}
 use Rattle.steps.specs.Step.{Step, owner}
 use Rattle.steps.specs.Steps.{stepRules, says, answer, next}
 use Rattle.steps.specs.Answers.{answered}
@@ -36,6 +33,7 @@ use Rattle.steps.proofs.Acts.{Taken, refused-same}
 pub record Sees (c : List ℕ) (j : ℕ) (g : Shape) (l n m : ℕ) : Type 0 where
   pub present : Present c j
   pub shape : Shaped c g
+  pub sector : Sector (S c) l
   pub last-is : l ≡ lastOf (sectors c j)
   pub count-is : n ≡ length (sectors c j)
   pub mark-is : m ≡ mark c j
@@ -45,17 +43,8 @@ pub record Turned (c : List ℕ) (j n e : ℕ) : Type 0 where
   pub some : 1 ≤ n
   pub answers : (s : Step) → owner s ≡ j → answer c s ≡ says n e
 
-pub sees-of : {c : List ℕ} {j l n m : ℕ} {g : Shape} {r : Found} → r ≡ foundOf c j → r ≡ There g l n m → Sees c j g l n m
-unfolding foundOf seen
-sees-of {c} {j} {l} {n} {m} {g} f e = go (verdict c .number) refl (isProduct c j) refl (sym e ∙ f)
-  where
-    go : (k : ℕ) → verdict c .number ≡ k → (b : Bool) → isProduct c j ≡ b → There g l n m ≡ foundIn (seenBy k (verdict c .entry) b (productAt c j)) c j → Sees c j g l n m
-    go (suc k) x b y q = absurd (let z : _≡_ {A = ℕ} 0 1 = cc in omega arith)
-    go zero x false y q = absurd (let z : _≡_ {A = ℕ} 0 1 = cc in omega arith)
-    go zero x true y q =
-        let o = accepts c .0 x in
-        let h : g ≡ shapeOf c = cc in
-        record { present = record { obeys = o; is-product = test-product c j y }; shape = rw h (shaped c (obeys-bounds c o)); last-is = cc; count-is = cc; mark-is = cc }
+pub sees-of : {c : List ℕ} {j l n m : ℕ} {g : Shape} → Finds c j l n → Shaped c g → m ≡ markSaid (S c) l (element c l) → Sees c j g l n m
+sees-of f s e = record { present = f .present; shape = s; sector = f .sector; last-is = f .last-is; count-is = f .count-is; mark-is = e ∙ f .mark-is }
 
 pub turned-of : {c : List ℕ} {j n e : ℕ} {r : Found} → r ≡ foundOf c j → r ≡ Not n e → Turned c j n e
 unfolding foundOf seen answer
@@ -78,23 +67,9 @@ module _ {c : List ℕ} {g : Shape} (s : Shaped c g) where
   pub entry-in : {j : ℕ} → Present c j → (1 ≤ j) × (j ≤ g .entries)
   entry-in p = (p .is-product .low, omega (arith, p .is-product .high, s .entries-is))
 
-  pub place-is : (j : ℕ) → 4 + j * g .size ≡ sectorAt c j
-  unfolding sectorAt
-  place-is j = rw (s .size-is)
-
-  -- a sector of a chain lies within the image
-  pub sector-within : (j : ℕ) → (1 ≤ j) × (j ≤ g .entries) → (4 + j * g .size + g .size ≤ length c) × (j * g .size ≤ 65025)
-  sector-within j h =
-      let b = s .in-bounds in
-      let k : Sector (S c) j = record { low = h .0; high = omega (arith, s .entries-is) } in
-      (omega (arith, place-is j, before-directory c b j k, s .size-is), mul-le-mul {n₂ = 255} {m₂ = 255} (omega (arith, s .entries-is)) (omega (arith, s .size-is)))
-
--- the part of n bytes from a on
-pub cut : (a n : ℕ) → a + n - a ≡ n
-cut a n = omega arith
-
-pub part-long : (c : List ℕ) (a n : ℕ) → a + n ≤ length c → length (take (a + n - a) (drop a c)) ≡ n
-part-long c a n h = rw (cut a n) (length-take-le n (drop a c) (omega (arith, length-drop a c)))
+  -- an entry's number is that of a sector
+  pub entry-sector : {j : ℕ} → (1 ≤ j) × (j ≤ g .entries) → Sector (S c) j
+  entry-sector h = let b = s .in-bounds in record { low = h .0; high = omega (arith, s .entries-is) }
 
 -- ---- the answer
 

@@ -1,22 +1,21 @@
 -- A step is refused with a number exactly when the row of that number says so, and taken exactly when none does: the rules of a step are the
 -- rows, and the first that does not hold decides. Assumes nothing.
 use mathlib.Core.Path.{_≡_, refl, sym, _∙_}
-use mathlib.Core.Logic.{_≢_, _↔_, _⊎_, inl, inr, ⊎-elim}
+use mathlib.Core.Logic.{_≢_, _↔_, ⊎-elim}
 use mathlib.Core.Bool.{Bool, true, false, true≢false}
 use mathlib.Core.List.{List, [], _∷_}
-use Prim.Native.Nat.{ℕ, zero, suc, _+_, _-_, _*_, _≤_, _<_}
-use native.Mathlib.Decide.{decLt, ℕ-discrete}
+use Prim.Native.Nat.{ℕ, zero, suc, _≤_, _<_}
+use native.Mathlib.Decide.{decLt}
 use native.Mathlib.Omega.{arith}
-use lib.ListN.{length, getD}
 use Rattle.bits.proofs.Laws.{lt-or-le}
-use Rattle.fields.proofs.Laws.{Found, none, at, above-found}
 use Rattle.rules.specs.Claim.{_≤?_, _and_, Rule, rule, Fails, here, later, first}
 use Rattle.rules.proofs.ClaimLaws as CL
-use Rattle.rules.proofs.ClaimLaws.{kept-fails, fails-one}
+use Rattle.rules.proofs.First.{first-of-fails}
 use Rattle.chains.specs.Chain.{Ends, fresh, used, blocked}
 use Rattle.chains.proofs.Laws.{last-ends}
-use Rattle.ticket.specs.Kind.{kind, typ, revision, leastOf, countOf, mostOf, limit}
-use Rattle.fields.specs.Fields.{limits}
+use Rattle.ticket.specs.Kind.{kind, limit, setRules, recordRule}
+use Rattle.ticket.proofs.Rules.{field-no, field-not, not-field, record-bad, bad-record}
+use Rattle.ticket.proofs.Rows.{Row, row-kind, row-extent, row-rest, to-row, of-row}
 use Rattle.image.specs.Image.{S, isProduct, element, mark}
 use Rattle.image.specs.Rules.{verdict}
 use Rattle.image.specs.Obeys.{IsProduct, Obeys, Says, accepted, Present}
@@ -24,9 +23,9 @@ use Rattle.image.specs.Product.{Product, productAt, seen}
 use Rattle.image.proofs.Exact.{test-product, product-test, says, accepts, exact}
 use Rattle.image.proofs.Stays.{chain-of}
 use Rattle.steps.specs.Step.{Step, write, writeAll, setMark, owner}
-use Rattle.steps.specs.Steps.{writeRules, fieldRule, recordRule, stepRules, answer}
+use Rattle.steps.specs.Steps.{writeRules, stepRules, answer}
 use Rattle.steps.specs.Refuses as R
-use Rattle.steps.specs.Refuses.{Blocked, OtherKind, WrongExtent, NoField, BadRecord, a-field, a-record, Writable, Refuses, image, no-product}
+use Rattle.steps.specs.Refuses.{Blocked, IsOtherKind, HasWrongExtent, a-field, a-record, Writable, Refuses, image, no-product}
 use Rattle.steps.proofs.Acts.{numbered}
 
 -- ---- numbers
@@ -40,35 +39,11 @@ ends-top (blocked e) = omega arith
 pub mark-top : {c : List ℕ} {j : ℕ} → Present c j → mark c j ≤ 2
 mark-top {c} p = ends-top (last-ends (element c) (S c) (chain-of c (p .obeys) (p .is-product) .leads))
 
-not-field : (n : ℕ) → (((1 ≤ n) × (n ≤ countOf kind)) → ⊥) → NoField n
-not-field n h = ⊎-elim (λ l. inl l) (λ l. inr (⊎-elim (λ k. k) (λ k. absurd (h (l, k))) (lt-or-le (countOf kind) n))) (lt-or-le n 1)
-
-field-not : (n : ℕ) → (NoField n → ⊥) → (1 ≤ n) × (n ≤ countOf kind)
-field-not n h = (⊎-elim (λ l. absurd (h (inl l))) (λ l. l) (lt-or-le n 1), ⊎-elim (λ l. absurd (h (inr l))) (λ l. l) (lt-or-le (countOf kind) n))
-
-most-many : length (mostOf kind) ≡ countOf kind
-unfolding mostOf limits
-most-many = refl
-
-field-no : (n : ℕ) → ((1 ≤ n) × (n ≤ countOf kind)) → NoField n → ⊥
-field-no n h (inl l) = omega arith
-field-no n h (inr l) = omega arith
-
 not-le : (a b : ℕ) → (a ≤ b → ⊥) → b < a
 not-le a b h = ⊎-elim (λ l. l) (λ l. absurd (h l)) (lt-or-le b a)
 
-le-not : (a b : ℕ) → (b < a → ⊥) → a ≤ b
-le-not a b h = ⊎-elim (λ l. absurd (h l)) (λ l. l) (lt-or-le b a)
-
 mark-not : (m : ℕ) → m ≢ 1 → m ≢ 2 → ((1 ≤ m) × (m ≤ 2)) → ⊥
 mark-not m a b k = elim (decLt m 2) [ yes l ↦ a (omega arith) | no l ↦ b (omega arith) ]
-
-found-number : (rs : List Rule) → CL.Numbered rs → {n : ℕ} → Fails rs n → first rs ≡ n
-found-number rs k f = go (CL.found rs k) f
-  where
-    go : {r n : ℕ} → CL.Found rs r → Fails rs n → r ≡ n
-    go (CL.none k) f = absurd (kept-fails f k)
-    go (CL.one a b) f = fails-one b f
 
 absent : (c : List ℕ) (j : ℕ) → (IsProduct c j → ⊥) → isProduct c j ≡ false
 absent c j h = go (isProduct c j) refl
@@ -77,78 +52,12 @@ absent c j h = go (isProduct c j) refl
     go true e = absurd (h (test-product c j e))
     go false e = refl
 
-sub-one : (i : ℕ) → i + 1 - 1 ≡ i
-sub-one i = omega arith
+-- 22 and 23 of a product q, and the rules rs after them
+abbrev Rows : Product → List Rule → ℕ → Type 0
+Rows q rs = Row (q .typ) (q .revision) (q .blocks) (q .size) rs
 
--- the first value above its limit, where there is one
-bad-record : (vs : List ℕ) → (((length vs ≡ countOf kind) × ((i : ℕ) → i < countOf kind → getD vs i 0 ≤ limit kind (i + 1))) → ⊥) → BadRecord vs
-bad-record vs h = elim (ℕ-discrete (length vs) (countOf kind)) [
-  | no d ↦ inl d
-  | yes e ↦ inr (go (above-found (mostOf kind) vs 0 (most-many ∙ sym e)) e)
-]
-  where
-    go : {r : ℕ} → Found (mostOf kind) vs 0 r → length vs ≡ countOf kind → (i : ℕ) × (i < countOf kind) × (limit kind (i + 1) < getD vs i 0)
-    go (none a) e = absurd (h (e, λ i l. rw (sub-one i) (a i (omega arith))))
-    go (at k f) e = (k, omega (arith, f .inside), rw (sub-one k) (f .over))
-
-record-bad : (vs : List ℕ) → BadRecord vs → ((length vs ≡ countOf kind) × ((i : ℕ) → i < countOf kind → getD vs i 0 ≤ limit kind (i + 1))) → ⊥
-record-bad vs (inl d) h = d (h .0)
-record-bad vs (inr (i, l, o)) h = omega (arith, h .1 i l)
-
--- ---- the rows of a write, of any product q and rules rs after them
-
--- what the rows say of a product
-abbrev Other : Product → Type 0
-Other q = (q .typ ≢ typ) ⊎ (q .revision ≢ revision)
-
-abbrev Extent : Product → Type 0
-Extent q = (4 * q .blocks < leastOf kind) ⊎ (q .size < 4 * q .blocks)
-
--- a rule of a write that fails
-data Row (q : Product) (rs : List Rule) : ℕ → Type 0 where
-  row-blocked : (q .marked ≤ 1 → ⊥) → Row q rs 27
-  row-kind : q .marked ≤ 1 → Other q → Row q rs 22
-  row-extent : q .marked ≤ 1 → (Other q → ⊥) → Extent q → Row q rs 23
-  row-rest : {n : ℕ} → q .marked ≤ 1 → (Other q → ⊥) → (Extent q → ⊥) → Fails rs n → Row q rs n
-
-same-kind : (q : Product) → q .typ ≡ typ → q .revision ≡ revision → Other q → ⊥
-same-kind q a b (inl h) = h a
-same-kind q a b (inr h) = h b
-
-fits-extent : (q : Product) → leastOf kind ≤ 4 * q .blocks → 4 * q .blocks ≤ q .size → Extent q → ⊥
-fits-extent q a b (inl h) = omega arith
-fits-extent q a b (inr h) = omega arith
-
-to-row : (q : Product) (rs : List Rule) {n : ℕ} → Fails (writeRules q rs) n → Row q rs n
-to-row q rs (here h) = row-blocked h
-to-row q rs (later m (here h)) = row-kind m (inl h)
-to-row q rs (later m (later k (here h))) = row-kind m (inr h)
-to-row q rs (later m (later k (later l (here h)))) = row-extent m (same-kind q k l) (inl (not-le (leastOf kind) (4 * q .blocks) h))
-to-row q rs (later m (later k (later l (later a (here h))))) = row-extent m (same-kind q k l) (inr (not-le (4 * q .blocks) (q .size) h))
-to-row q rs (later m (later k (later l (later a (later z f))))) = row-rest m (same-kind q k l) (fits-extent q a z) f
-
-typ-is : (q : Product) → (Other q → ⊥) → q .typ ≡ typ
-typ-is q h = elim (ℕ-discrete (q .typ) typ) [ yes e ↦ e | no d ↦ absurd (h (inl d)) ]
-
-revision-is : (q : Product) → (Other q → ⊥) → q .revision ≡ revision
-revision-is q h = elim (ℕ-discrete (q .revision) revision) [ yes e ↦ e | no d ↦ absurd (h (inr d)) ]
-
-of-row : (q : Product) (rs : List Rule) {n : ℕ} → Row q rs n → Fails (writeRules q rs) n
-of-row q rs (row-blocked h) = here h
-of-row q rs (row-kind m o) = elim (ℕ-discrete (q .typ) typ) [
-  | no d ↦ later m (here d)
-  | yes e ↦ later m (later e (here (⊎-elim (λ h k. h e) (λ h k. h k) o)))
-]
-of-row q rs (row-extent m o x) =
-    let a = typ-is q o in
-    let b = revision-is q o in
-    elim (decLt (4 * q .blocks) (leastOf kind)) [
-      | yes l ↦ let z : leastOf kind ≤ 4 * q .blocks → ⊥ = λ k. omega arith in later m (later a (later b (here z)))
-      | no l ↦ let z : 4 * q .blocks ≤ q .size → ⊥ = λ k. ⊎-elim (λ h. omega arith) (λ h. omega arith) x in let y : leastOf kind ≤ 4 * q .blocks = omega arith in later m (later a (later b (later y (here z))))
-    ]
-of-row q rs (row-rest m o x f) =
-    later m (later (typ-is q o) (later (revision-is q o)
-    (later (le-not (leastOf kind) (4 * q .blocks) (λ h. x (inl h))) (later (le-not (4 * q .blocks) (q .size) (λ h. x (inr h))) f))))
+of-rows : (q : Product) (rs : List Rule) {n : ℕ} → q .marked ≤ 1 → Rows q rs n → Fails (writeRules q rs) n
+of-rows q rs m r = later m (of-row (q .typ) (q .revision) (q .blocks) (q .size) rs r)
 
 -- ---- the rules of a step that fails are the rows that hold
 
@@ -162,23 +71,19 @@ module _ {c : List ℕ} {j : ℕ} (p : Present c j) where
   is-free : (Blocked c j → ⊥) → mark c j ≤ 1
   is-free h = let t = mark-top p in elim (decLt (mark c j) 2) [ yes l ↦ omega arith | no l ↦ absurd (h (omega arith)) ]
 
-  writable : mark c j ≤ 1 → (OtherKind c j → ⊥) → (WrongExtent c j → ⊥) → Writable c j
+  writable : mark c j ≤ 1 → (IsOtherKind c j → ⊥) → (HasWrongExtent c j → ⊥) → Writable c j
   writable m k e = record { present = p; not-blocked = not-blocked m; of-kind = k; in-extent = e }
 
-  row-write : (n v : ℕ) {r : ℕ} → Row (productAt c j) (fieldRule n ∷ rule 26 (v ≤? limit kind n) ∷ []) r → Refuses c (write j n v) r j
-  unfolding productAt
-  row-write n v (row-blocked h) = R.blocked (a-field j n v) p (is-blocked h)
-  row-write n v (row-kind m o) = R.other-kind (a-field j n v) p (not-blocked m) o
-  row-write n v (row-extent m o x) = R.wrong-extent (a-field j n v) p (not-blocked m) o x
-  row-write n v (row-rest m o x (here h)) = R.no-field (writable m o x) (not-field n h)
-  row-write n v (row-rest m o x (later f (here h))) = R.too-large (writable m o x) (field-no n f) (not-le v (limit kind n) h)
+  row-write : (n v : ℕ) {r : ℕ} → mark c j ≤ 1 → Rows (productAt c j) (setRules n v) r → Refuses c (write j n v) r j
+  row-write n v m (row-kind o) = R.other-kind (a-field j n v) p (not-blocked m) o
+  row-write n v m (row-extent o x) = R.wrong-extent (a-field j n v) p (not-blocked m) o x
+  row-write n v m (row-rest o x (here h)) = R.no-field (writable m o x) (not-field n h)
+  row-write n v m (row-rest o x (later f (here h))) = R.too-large (writable m o x) (field-no n f) (not-le v (limit kind n) h)
 
-  row-record : (vs : List ℕ) {r : ℕ} → Row (productAt c j) (recordRule vs ∷ []) r → Refuses c (writeAll j vs) r j
-  unfolding productAt
-  row-record vs (row-blocked h) = R.blocked (a-record j vs) p (is-blocked h)
-  row-record vs (row-kind m o) = R.other-kind (a-record j vs) p (not-blocked m) o
-  row-record vs (row-extent m o x) = R.wrong-extent (a-record j vs) p (not-blocked m) o x
-  row-record vs (row-rest m o x (here h)) = R.bad-record (writable m o x) (bad-record vs h)
+  row-record : (vs : List ℕ) {r : ℕ} → mark c j ≤ 1 → Rows (productAt c j) (recordRule vs ∷ []) r → Refuses c (writeAll j vs) r j
+  row-record vs m (row-kind o) = R.other-kind (a-record j vs) p (not-blocked m) o
+  row-record vs m (row-extent o x) = R.wrong-extent (a-record j vs) p (not-blocked m) o x
+  row-record vs m (row-rest o x (here h)) = R.bad-record (writable m o x) (bad-record vs h)
 
   fails-mark : (m : ℕ) {r : ℕ} → Fails (rule 28 (1 ≤? m and m ≤? 2) ∷ rule 27 (mark c j ≤? m) ∷ []) r → Refuses c (setMark j m) r j
   fails-mark m (here h) = R.no-mark p (λ (e : m ≡ 1). h (omega arith, omega arith)) (λ (e : m ≡ 2). h (omega arith, omega arith))
@@ -190,8 +95,10 @@ module _ {c : List ℕ} {j : ℕ} (p : Present c j) where
 
 fails-refuses : (c : List ℕ) (s : Step) {r : ℕ} → Present c (owner s) → Fails (stepRules (productAt c (owner s)) s) r → Refuses c s r (owner s)
 unfolding stepRules productAt
-fails-refuses c (write j n v) p f = row-write p n v (to-row (productAt c j) _ f)
-fails-refuses c (writeAll j vs) p f = row-record p vs (to-row (productAt c j) _ f)
+fails-refuses c (write j n v) p (here h) = R.blocked (a-field j n v) p (is-blocked p h)
+fails-refuses c (write j n v) p (later m f) = row-write p n v m (to-row _ _ _ _ _ f)
+fails-refuses c (writeAll j vs) p (here h) = R.blocked (a-record j vs) p (is-blocked p h)
+fails-refuses c (writeAll j vs) p (later m f) = row-record p vs m (to-row _ _ _ _ _ f)
 fails-refuses c (setMark j m) p f = fails-mark p m f
 
 -- the image's own refusal, no product, or the first rule of the step that fails
@@ -204,18 +111,18 @@ refuses-ruled : {c : List ℕ} {s : Step} {n e : ℕ} → Refuses c s n e → Ru
 unfolding stepRules productAt
 refuses-ruled (image a h) = of-image a h
 refuses-ruled (no-product o h) = of-entry o h
-refuses-ruled {c} (R.blocked (a-field j n v) p h) = of-step 27 p (omega arith) (of-row (productAt c j) _ (row-blocked (λ (l : mark c j ≤ 1). omega arith)))
-refuses-ruled {c} (R.blocked (a-record j vs) p h) = of-step 27 p (omega arith) (of-row (productAt c j) _ (row-blocked (λ (l : mark c j ≤ 1). omega arith)))
-refuses-ruled {c} (R.other-kind (a-field j n v) p b o) = of-step 22 p (omega arith) (of-row (productAt c j) _ (row-kind (is-free p b) o))
-refuses-ruled {c} (R.other-kind (a-record j vs) p b o) = of-step 22 p (omega arith) (of-row (productAt c j) _ (row-kind (is-free p b) o))
-refuses-ruled {c} (R.wrong-extent (a-field j n v) p b o x) = of-step 23 p (omega arith) (of-row (productAt c j) _ (row-extent (is-free p b) o x))
-refuses-ruled {c} (R.wrong-extent (a-record j vs) p b o x) = of-step 23 p (omega arith) (of-row (productAt c j) _ (row-extent (is-free p b) o x))
+refuses-ruled {c} (R.blocked (a-field j n v) p h) = of-step 27 p (omega arith) (here (λ l. not-blocked p l h))
+refuses-ruled {c} (R.blocked (a-record j vs) p h) = of-step 27 p (omega arith) (here (λ l. not-blocked p l h))
+refuses-ruled {c} (R.other-kind (a-field j n v) p b o) = of-step 22 p (omega arith) (of-rows (productAt c j) _ (is-free p b) (row-kind o))
+refuses-ruled {c} (R.other-kind (a-record j vs) p b o) = of-step 22 p (omega arith) (of-rows (productAt c j) _ (is-free p b) (row-kind o))
+refuses-ruled {c} (R.wrong-extent (a-field j n v) p b o x) = of-step 23 p (omega arith) (of-rows (productAt c j) _ (is-free p b) (row-extent o x))
+refuses-ruled {c} (R.wrong-extent (a-record j vs) p b o x) = of-step 23 p (omega arith) (of-rows (productAt c j) _ (is-free p b) (row-extent o x))
 refuses-ruled {c} (R.no-field {j = j} {n = n} w h) =
-    of-step 25 (w .present) (omega arith) (of-row (productAt c j) _ (row-rest (is-free (w .present) (w .not-blocked)) (w .of-kind) (w .in-extent) (here (λ k. field-no n k h))))
+    of-step 25 (w .present) (omega arith) (of-rows (productAt c j) _ (is-free (w .present) (w .not-blocked)) (row-rest (w .of-kind) (w .in-extent) (here (λ k. field-no n k h))))
 refuses-ruled {c} (R.too-large {j = j} {n = n} w f h) =
-    of-step 26 (w .present) (omega arith) (of-row (productAt c j) _ (row-rest (is-free (w .present) (w .not-blocked)) (w .of-kind) (w .in-extent) (later (field-not n f) (here (λ (k : _ ≤ limit kind n). omega arith)))))
+    of-step 26 (w .present) (omega arith) (of-rows (productAt c j) _ (is-free (w .present) (w .not-blocked)) (row-rest (w .of-kind) (w .in-extent) (later (field-not n f) (here (λ (k : _ ≤ limit kind n). omega arith)))))
 refuses-ruled {c} (R.bad-record {j = j} {vs = vs} w h) =
-    of-step 26 (w .present) (omega arith) (of-row (productAt c j) _ (row-rest (is-free (w .present) (w .not-blocked)) (w .of-kind) (w .in-extent) (here (record-bad vs h))))
+    of-step 26 (w .present) (omega arith) (of-rows (productAt c j) _ (is-free (w .present) (w .not-blocked)) (row-rest (w .of-kind) (w .in-extent) (here (record-bad vs h))))
 refuses-ruled {c} (R.no-mark {j = j} {m = m} p a b) = of-step 28 p (omega arith) (here (λ (k : (1 ≤ m) × (m ≤ 2)). mark-not m a b k))
 refuses-ruled {c} (R.mark-blocked {j = j} p h) =
     let one : (1 ≤ 1) × (1 ≤ 2) = (omega arith, omega arith) in
@@ -238,7 +145,7 @@ ruled-answer c s (of-entry o h) =
 ruled-answer c s (of-step n p a f) =
     let x = exact c 0 0 .1 (accepted (p .obeys)) in
     let y = product-test c (owner s) (p .is-product) in
-    go n (found-number (stepRules (productAt c (owner s)) s) (numbered (productAt c (owner s)) s) f) a x y
+    go n (first-of-fails (stepRules (productAt c (owner s)) s) (numbered (productAt c (owner s)) s) n f) a x y
   where
     go : (n : ℕ) → first (stepRules (productAt c (owner s)) s) ≡ n → 1 ≤ n → (verdict c .number ≡ 0) × (verdict c .entry ≡ 0) → isProduct c (owner s) ≡ true
         → (answer c s .number ≡ n) × (answer c s .entry ≡ owner s)

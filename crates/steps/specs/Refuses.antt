@@ -1,10 +1,9 @@
 -- When a step is refused, and with which number: a constructor for each row of document 01's table, in its words and order. Assumes nothing.
 use mathlib.Core.Path.{_≡_}
-use mathlib.Core.Logic.{_≢_, _⊎_}
+use mathlib.Core.Logic.{_≢_}
 use mathlib.Core.List.{List}
-use Prim.Native.Nat.{ℕ, _+_, _*_, _≤_, _<_}
-use lib.ListN.{length, getD}
-use Rattle.ticket.specs.Kind.{kind, typ, revision, leastOf, countOf, limit}
+use Prim.Native.Nat.{ℕ, _≤_, _<_}
+use Rattle.ticket.specs.Kind.{kind, limit, OtherKind, WrongExtent, NoField, BadRecord}
 use Rattle.image.specs.Image.{mark}
 use Rattle.image.specs.Obeys.{IsProduct, Obeys, Present, Says}
 use Rattle.image.specs.Product.{productAt}
@@ -14,21 +13,12 @@ use Rattle.steps.specs.Step.{Step, write, writeAll, setMark, owner}
 abbrev pub Blocked : List ℕ → ℕ → Type 0
 Blocked c j = mark c j ≡ 2
 
--- 22: TYP not 23, or revision not 2
-abbrev pub OtherKind : List ℕ → ℕ → Type 0
-OtherKind c j = (productAt c j .typ ≢ typ) ⊎ (productAt c j .revision ≢ revision)
+-- 22 and 23 of a product
+abbrev pub IsOtherKind : List ℕ → ℕ → Type 0
+IsOtherKind c j = OtherKind (productAt c j .typ) (productAt c j .revision)
 
--- 23: 4 × IPELength under 32 or beyond the product
-abbrev pub WrongExtent : List ℕ → ℕ → Type 0
-WrongExtent c j = (4 * productAt c j .blocks < leastOf kind) ⊎ (productAt c j .size < 4 * productAt c j .blocks)
-
--- 25: field number not 1 to 22
-abbrev pub NoField : ℕ → Type 0
-NoField n = (n < 1) ⊎ (countOf kind < n)
-
--- 26 for a record: not a value for each field, or one too wide
-abbrev pub BadRecord : List ℕ → Type 0
-BadRecord vs = (length vs ≢ countOf kind) ⊎ ((i : ℕ) × (i < countOf kind) × (limit kind (i + 1) < getD vs i 0))
+abbrev pub HasWrongExtent : List ℕ → ℕ → Type 0
+HasWrongExtent c j = WrongExtent (productAt c j .blocks) (productAt c j .size)
 
 -- a write: of a field or of a record
 pub data Writes : Step → Type 0 where
@@ -39,8 +29,8 @@ pub data Writes : Step → Type 0 where
 pub record Writable (c : List ℕ) (j : ℕ) : Type 0 where
   pub present : Present c j
   pub not-blocked : Blocked c j → ⊥
-  pub of-kind : OtherKind c j → ⊥
-  pub in-extent : WrongExtent c j → ⊥
+  pub of-kind : IsOtherKind c j → ⊥
+  pub in-extent : HasWrongExtent c j → ⊥
 
 -- the step s on the image c is refused with the number n, naming the entry e
 pub data Refuses (c : List ℕ) : Step → ℕ → ℕ → Type 0 where
@@ -50,8 +40,8 @@ pub data Refuses (c : List ℕ) : Step → ℕ → ℕ → Type 0 where
   no-product : {s : Step} → Obeys c → (IsProduct c (owner s) → ⊥) → Refuses c s 20 (owner s)
   -- a write: 27, 22, 23
   blocked : {s : Step} → Writes s → Present c (owner s) → Blocked c (owner s) → Refuses c s 27 (owner s)
-  other-kind : {s : Step} → Writes s → Present c (owner s) → (Blocked c (owner s) → ⊥) → OtherKind c (owner s) → Refuses c s 22 (owner s)
-  wrong-extent : {s : Step} → Writes s → Present c (owner s) → (Blocked c (owner s) → ⊥) → (OtherKind c (owner s) → ⊥) → WrongExtent c (owner s)
+  other-kind : {s : Step} → Writes s → Present c (owner s) → (Blocked c (owner s) → ⊥) → IsOtherKind c (owner s) → Refuses c s 22 (owner s)
+  wrong-extent : {s : Step} → Writes s → Present c (owner s) → (Blocked c (owner s) → ⊥) → (IsOtherKind c (owner s) → ⊥) → HasWrongExtent c (owner s)
       → Refuses c s 23 (owner s)
   -- a field write: 25, 26
   no-field : {j n v : ℕ} → Writable c j → NoField n → Refuses c (write j n v) 25 j

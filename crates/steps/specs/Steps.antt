@@ -6,7 +6,7 @@ use Rattle.fields.specs.Lists.{span, listOf, nth}
 use Rattle.fields.specs.Fields.{stores}
 use Rattle.fields.specs.Shifted.{shifted}
 use Rattle.rules.specs.Claim.{_≤?_, _and_, Rule, rule, first}
-use Rattle.ticket.specs.Kind.{kind, countOf, limit, fitting, kindRules}
+use Rattle.ticket.specs.Kind.{kind, kindRules, setRules, recordRule}
 use Rattle.image.specs.Rules.{Verdict}
 use Rattle.image.specs.Product.{Product, Seen, refused, missing, there, seen, judgedBy}
 use Rattle.steps.specs.Step.{Step, write, writeAll, setMark, owner}
@@ -17,21 +17,17 @@ use Rattle.steps.specs.Step.{Step, write, writeAll, setMark, owner}
 abbrev pub says : ℕ → ℕ → Verdict
 says n e = record { number = n; entry = e }
 
+-- 22 and 23 of the product p
+abbrev pub kindOf : Product → List Rule
+kindOf p = kindRules (p .typ) (p .revision) (p .blocks) (p .size)
+
 -- "a field write 20, 27, 22, 23, 25, 26; a record write 20, 27, 22, 23, 26": 27, 22 and 23 of the product p, then the rules rs
 abbrev pub writeRules : Product → List Rule → List Rule
-writeRules p rs = rule 27 (p .marked ≤? 1) ∷ (kindRules (p .typ) (p .revision) (p .blocks) (p .size) ++ rs)
-
--- 25: the number of a field
-abbrev pub fieldRule : ℕ → Rule
-fieldRule n = rule 25 (1 ≤? n and n ≤? countOf kind)
-
--- 26: a value for each field, none above its limit
-abbrev pub recordRule : List ℕ → Rule
-recordRule vs = rule 26 (fitting vs)
+writeRules p rs = rule 27 (p .marked ≤? 1) ∷ (kindOf p ++ rs)
 
 -- after the image's own numbers and 20; "a mark 20, 28, 27", where 27 meets mark 1 on a blocked chain alone: a mark may not fall below the one that is there
 unfoldable pub stepRules : Product → Step → List Rule
-stepRules p (write j n v) = writeRules p (fieldRule n ∷ rule 26 (v ≤? limit kind n) ∷ [])
+stepRules p (write j n v) = writeRules p (setRules n v)
 stepRules p (writeAll j vs) = writeRules p (recordRule vs ∷ [])
 stepRules p (setMark j m) = rule 28 (1 ≤? m and m ≤? 2) ∷ rule 27 (p .marked ≤? m) ∷ []
 

@@ -1,4 +1,9 @@
-// Words and numbers of a line of text, read from a slice and written into one.
+// Text: the words and numbers of a line, answers on standard output, and the lines of standard input.
+pub mod feed;
+pub mod hex;
+pub mod prints;
+pub mod words;
+
 ghost use mathlib.Core.Path.{_≡_};
 ghost use mathlib.Core.Bool.{true};
 ghost use Prim.Native.Nat.{_≤_, _<_};
@@ -10,6 +15,9 @@ ghost use Rattle.text.specs.Hex.{meant, pairOf, spelledByte};
 ghost use Rattle.text.specs.Written.{written, next};
 
 const BLANK: u8 = 32;
+
+// The most decimal digits of a number.
+const DIGITS: usize = 20;
 
 // What a word is as a decimal number.
 pub enum Number {
@@ -56,7 +64,7 @@ pub fn decimal(word: &[u8]) -> Number
             return Number::Not;
         }
         let d = wide(b) - 48;
-        if (18446744073709551615 - d) / 10 < n {
+        if (u64::MAX - d) / 10 < n {
             return Number::Not;
         }
         n = n * 10 + d;
@@ -65,6 +73,7 @@ pub fn decimal(word: &[u8]) -> Number
     Number::Is(n)
 }
 
+// A byte as a number.
 fn wide(b: u8) -> u64
     ensures { λ r. ⌜ (r ≡ b) × (r < 256) ⌝ }
 {
@@ -114,7 +123,7 @@ pub fn put(out: &mut [u8], at: usize, text: &[u8]) -> usize
 pub fn put_number(out: &mut [u8], at: usize, n: u64) -> usize
     ensures { λ r. ⌜ (r ≡ next (now (out .entry)) at (spelled n)) × (now (out .exit) ≡ written (now (out .entry)) at (spelled n)) ⌝ }
 {
-    let mut text = [0u8; 20];
+    let mut text = [0u8; DIGITS];
     let k = io::decimal(n, &mut text);
     put(out, at, &text[..k])
 }

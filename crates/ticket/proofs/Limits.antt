@@ -7,13 +7,13 @@ use native.Mathlib.Omega.{arith}
 use lib.ListN.{length, getD, length-set}
 use lib.Seq.{getD-set-same, getD-set-other}
 use Rattle.fields.specs.Lists.{typ23, nth}
-use Rattle.rules.specs.Claim.{rule, first}
+use Rattle.rules.specs.Claim.{Means, first}
 use Rattle.rules.proofs.First.{kept-of-first}
 use Rattle.bits.proofs.Laws.{lt-or-le}
 use Rattle.fields.specs.Fields.{limitOf, limits, lowest}
 use Rattle.fields.specs.Together.{Fit}
 use Rattle.fields.proofs.Laws.{length-limits, getD-limits, lowest-none, none-lowest}
-use Rattle.ticket.specs.Kind.{kind, mostOf, limit, fitting}
+use Rattle.ticket.specs.Kind.{kind, mostOf, limit, fitting, recordRule}
 
 pub length-most : length (mostOf kind) ≡ 22
 unfolding mostOf
@@ -52,10 +52,11 @@ fit-lowest vs e z = record {
   low = λ i h. omega (arith, lowest-none (mostOf kind) vs (length-most ∙ sym e) z i (omega arith), most-low i h);
 }
 
--- and so it is where 26 is not given
-pub lowest-kept : (vs : List ℕ) → first (rule 26 (fitting vs) ∷ []) ≡ 0 → lowest (mostOf kind) vs ≡ 0
-lowest-kept vs z =
-    let k = kept-of-first (rule 26 (fitting vs) ∷ []) (omega arith, tt) z .0 in
-    let e = k .0 in
-    none-lowest (mostOf kind) vs (length-most ∙ sym e)
-    (λ j h. subst (λ (i : ℕ). getD vs j 0 ≤ getD (mostOf kind) i 0) (omega arith) (k .1 j (omega arith)))
+-- and there is none where 26 is not given
+pub lowest-fitting : (vs : List ℕ) → Means (fitting vs) → lowest (mostOf kind) vs ≡ 0
+lowest-fitting vs m =
+    none-lowest (mostOf kind) vs (length-most ∙ sym (m .0))
+    (λ j h. subst (λ (i : ℕ). getD vs j 0 ≤ getD (mostOf kind) i 0) (omega arith) (m .1 j (omega (arith, m .0))))
+
+pub lowest-kept : (vs : List ℕ) → first (recordRule vs ∷ []) ≡ 0 → lowest (mostOf kind) vs ≡ 0
+lowest-kept vs z = lowest-fitting vs (kept-of-first (recordRule vs ∷ []) (omega arith, tt) z .0)

@@ -1,70 +1,78 @@
 -- A record that is taken is decoded as it was, and bytes are encoded as they were exactly where ExpiryTime is below 1,440.
 -- Assumes nothing.
-use mathlib.Core.Path.{_≡_, refl, sym, ap, subst, _∙_}
+use mathlib.Core.Path.{_≡_, refl, sym, ap, _∙_}
 use mathlib.Core.Logic.{_↔_, _⊎_, inl, inr, ⊎-elim}
+use mathlib.Core.Bool.{Bool, true, false, cond}
 use mathlib.Core.List.{List, [], _∷_}
 use Prim.Native.Nat.{ℕ, zero, suc, _+_, _-_, _*_, _/_, _%_, _≤_, _<_}
 use native.Mathlib.Nat.{not-suc-le-zero}
 use native.Mathlib.Omega.{arith}
 use lib.ListN.{length, getD, drop}
-use borrow.Author.Tests.{lt-ltb, le-ltb}
+use lib.Dec.{ltb}
 use Rattle.bits.specs.Bits.{Bytes, digit, bit, number, field}
 use Rattle.bits.proofs.Laws.{lt-or-le, bit-past, field-byte}
+use Rattle.rules.specs.Claim.{Means, first}
+use Rattle.rules.proofs.First.{kept-of-first}
 use Rattle.fields.specs.declared.Layout.the-variants.{Typ23}
-use Rattle.fields.specs.Lists.{typ23, nth}
-use Rattle.fields.specs.Fields.{fields, stores, limitOf, lowest}
+use Rattle.fields.specs.Lists.{typ23}
+use Rattle.fields.specs.Fields.{fields, stores, lowest}
 use Rattle.fields.specs.Together.{Fit}
 use Rattle.fields.proofs.Joined.{lists-joined}
-use Rattle.fields.proofs.Laws.{AllLow, fields-stores, stores-onto, field-before, fit-fields, getD-fields, length-fields, length-stores, bytes-stores, lowest-none, none-lowest}
+use Rattle.fields.proofs.Laws.{fields-stores, stores-onto, field-before, fit-fields, getD-fields, length-fields, length-stores, bytes-stores}
 use Rattle.ticket.specs.declared.Record.{Record}
 use Rattle.ticket.specs.declared.Encoded.{Encoded}
-use Rattle.ticket.specs.Kind.{kind, mostOf, limit}
+use Rattle.ticket.specs.Kind.{kind, mostOf, limit, fitting, recordRule}
 use Rattle.ticket.specs.Ticket.{zeros, bytesOf, encoded, encodeOf, decodeOf}
-use Rattle.ticket.proofs.Limits.{same-or-not, length-most, limit-time, limit-other, fit-lowest}
+use Rattle.ticket.proofs.Limits.{same-or-not, limit-time, limit-other, fit-lowest, lowest-fitting}
+use Rattle.ticket.proofs.Rules.{record-number}
 
--- twenty-two values, none above its limit
-pub record Fits (t : Record) : Type 0 where
-  pub many : length (t .values) ≡ 22
-  pub low : (n : ℕ) → 1 ≤ n → n ≤ 22 → getD (t .values) (n - 1) 0 ≤ limit kind n
-
-all-low : (t : Record) → Fits t → AllLow (mostOf kind) (t .values)
-all-low t f j h =
-    let e = f .many in
-    subst (λ (k : ℕ). getD (t .values) k 0 ≤ getD (mostOf kind) k 0) (omega arith) (f .low (j + 1) (omega arith) (omega arith))
-
-low-of : (t : Record) → length (t .values) ≡ 22 → AllLow (mostOf kind) (t .values) → Fits t
-low-of t e a = record { many = e; low = λ n h k. a (n - 1) (omega arith) }
-
-lowest-fits : (t : Record) → Fits t → lowest (mostOf kind) (t .values) ≡ 0
-lowest-fits t f = none-lowest (mostOf kind) (t .values) (length-most ∙ sym (f .many)) (all-low t f)
+-- a value for each field, none above its limit
+abbrev pub Fits : Record → Type 0
+Fits t = Means (fitting (t .values))
 
 fit : (t : Record) → Fits t → Fit typ23 (t .values)
-fit t f = fit-lowest (t .values) (f .many) (lowest-fits t f)
+fit t f = fit-lowest (t .values) (f .0) (lowest-fitting (t .values) f)
 
 -- encoded exactly where it fits, else 26 and zeros
 pub taken : (t : Record) → Fits t → encodeOf t ≡ encoded 0 (bytesOf (t .values))
-taken t f = rw (le-ltb 0 (lowest (mostOf kind) (t .values)) (omega (arith, lowest-fits t f)))
+taken t f = rw (lowest-fitting (t .values) f)
 
-pub taken-fits : (t : Record) → length (t .values) ≡ 22 → encodeOf t .number ≡ 0 → Fits t
-taken-fits t e z =
-    ⊎-elim
-    (λ h. absurd (let q : encodeOf t ≡ encoded 26 (zeros 27) = rw (lt-ltb 0 (lowest (mostOf kind) (t .values)) h) in
-    omega (arith, ap (λ x. x .number) q)))
-    (λ h. low-of t e (lowest-none (mostOf kind) (t .values) (length-most ∙ sym e) (omega arith)))
-    (lt-or-le 0 (lowest (mostOf kind) (t .values)))
+abbrev encodedBy : Bool → List ℕ → Encoded
+encodedBy b vs = cond b (encoded 26 (zeros 27)) (encoded 0 (bytesOf vs))
 
--- 26 exactly where a value is above its limit
-pub refused-exactly : (t : Record) → length (t .values) ≡ 22 → (encodeOf t .number ≡ 26) ↔ (Fits t → ⊥)
-refused-exactly t e = (there, back)
-  where
-    there : encodeOf t .number ≡ 26 → Fits t → ⊥
-    there q f = let z = ap (λ x. x .number) (taken t f) in omega arith
+module _ (t : Record) (many : length (t .values) ≡ 22) where
+  number-zero : first (recordRule (t .values) ∷ []) ≡ 0 → Fits t
+  number-zero z = kept-of-first (recordRule (t .values) ∷ []) (omega arith, tt) z .0
 
-    back : (Fits t → ⊥) → encodeOf t .number ≡ 26
-    back bad =
-        ⊎-elim (λ h. rw (lt-ltb 0 (lowest (mostOf kind) (t .values)) h))
-        (λ h. absurd (bad (low-of t e (lowest-none (mostOf kind) (t .values) (length-most ∙ sym e) (omega arith)))))
-        (lt-or-le 0 (lowest (mostOf kind) (t .values)))
+  pub refused : (Fits t → ⊥) → encodeOf t ≡ encoded 26 (zeros 27)
+  refused bad = go (ltb 0 (lowest (mostOf kind) (t .values))) (record-number (t .values) many)
+    where
+      go : (b : Bool) → first (recordRule (t .values) ∷ []) ≡ cond b 26 0 → encodedBy b (t .values) ≡ encoded 26 (zeros 27)
+      go true e = refl
+      go false e = absurd (bad (number-zero e))
+
+  pub taken-fits : encodeOf t .number ≡ 0 → Fits t
+  taken-fits = go (ltb 0 (lowest (mostOf kind) (t .values))) (record-number (t .values) many)
+    where
+      go : (b : Bool) → first (recordRule (t .values) ∷ []) ≡ cond b 26 0 → encodedBy b (t .values) .number ≡ 0 → Fits t
+      go true e z = absurd (omega arith)
+      go false e z = number-zero e
+
+  -- 26 exactly where a value is above its limit
+  pub refused-exactly : (encodeOf t .number ≡ 26) ↔ (Fits t → ⊥)
+  refused-exactly = ((λ q f. let z = ap (λ x. x .number) (taken t f) in omega arith), λ bad. ap (λ x. x .number) (refused bad))
+
+  -- the record's own number decides
+  module _ (k : ℕ) (is : k ≡ first (recordRule (t .values) ∷ [])) where
+    pub encode-refused : (k ≡ 0 → ⊥) → encoded k (zeros 27) ≡ encodeOf t
+    encode-refused h = go (ltb 0 (lowest (mostOf kind) (t .values))) (is ∙ record-number (t .values) many)
+      where
+        go : (b : Bool) → k ≡ cond b 26 0 → encoded k (zeros 27) ≡ encodedBy b (t .values)
+        go true e = rw e
+        go false e = absurd (h e)
+
+    pub encode-taken : k ≡ 0 → encoded 0 (bytesOf (t .values)) ≡ encodeOf t
+    encode-taken z = sym (taken t (number-zero (sym is ∙ z)))
 
 pub encode-unique : (t : Record) {r r′ : Encoded} → r ≡ encodeOf t → r′ ≡ encodeOf t → r ≡ r′
 encode-unique t p q = p ∙ sym q
@@ -111,13 +119,15 @@ decoded-many : (b : List ℕ) → length (decodeOf b .values) ≡ 22
 decoded-many b = length-fields (0 ∷ 0 ∷ b) typ23
 
 decoded-fits : (b : List ℕ) → timeOf b < 1440 → Fits (decodeOf b)
-decoded-fits b h = record { many = decoded-many b; low = λ n i k. same-or-not n 9 (time n) (other n i k) }
+decoded-fits b h = (decoded-many b, λ i k. same-or-not i 8 (time i) (other i k))
   where
-    time : (n : ℕ) → n ≡ 9 → getD (decodeOf b .values) (n - 1) 0 ≤ limit kind n
-    time n q = rw (q, limit-time 9 refl, getD-fields (0 ∷ 0 ∷ b) typ23 8 (omega arith)) (omega arith)
+    time : (i : ℕ) → i ≡ 8 → getD (decodeOf b .values) i 0 ≤ limit kind (i + 1)
+    time i q = rw (q, limit-time 9 refl, getD-fields (0 ∷ 0 ∷ b) typ23 8 (omega arith)) (omega arith)
 
-    other : (n : ℕ) → 1 ≤ n → n ≤ 22 → (n ≡ 9 → ⊥) → getD (decodeOf b .values) (n - 1) 0 ≤ limit kind n
-    other n i k q = rw (limit-other n q i k) (fit-fields (0 ∷ 0 ∷ b) typ23 .low (n - 1) (omega arith))
+    other : (i : ℕ) → i < 22 → (i ≡ 8 → ⊥) → getD (decodeOf b .values) i 0 ≤ limit kind (i + 1)
+    other i k n =
+        let q : i + 1 - 1 ≡ i = omega arith in
+        rw (limit-other (i + 1) (λ z. n (omega arith)) (omega arith) (omega arith), q) (fit-fields (0 ∷ 0 ∷ b) typ23 .low i (omega arith))
 
 outside : (b : List ℕ) → length b ≡ 27 → (i : ℕ) → (i < 16) ⊎ (232 ≤ i) → bit (zeros 29) i ≡ bit (0 ∷ 0 ∷ b) i
 unfolding bit
@@ -147,14 +157,8 @@ module _ (b : List ℕ) (bytes : Bytes b) (e : length b ≡ 27) where
 
   pub late-refused : 1440 ≤ timeOf b → encodeOf (decodeOf b) ≡ encoded 26 (zeros 27)
   late-refused h =
-      ⊎-elim (λ k. rw (lt-ltb 0 (lowest (mostOf kind) (decodeOf b .values)) k))
-      (λ k. absurd (late (lowest-none (mostOf kind) (decodeOf b .values) (length-most ∙ sym (decoded-many b)) (omega arith))))
-      (lt-or-le 0 (lowest (mostOf kind) (decodeOf b .values)))
-    where
-      late : AllLow (mostOf kind) (decodeOf b .values) → ⊥
-      late a =
-          let n = decoded-many b in
-          omega (arith, a 8 (omega arith), limit-time 9 refl, getD-fields (0 ∷ 0 ∷ b) typ23 8 (omega arith))
+      refused (decodeOf b) (decoded-many b)
+      (λ f. omega (arith, f .1 8 (omega arith), limit-time 9 refl, getD-fields (0 ∷ 0 ∷ b) typ23 8 (omega arith)))
 
   -- the bytes come back only where ExpiryTime is below 1,440
   pub encode-decode-only : encodeOf (decodeOf b) .bytes ≡ b → timeOf b < 1440

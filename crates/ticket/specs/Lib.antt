@@ -1,3 +1,4 @@
+pub mod Checks
 pub mod Header
 pub mod Kind
 pub mod Ticket

@@ -7,8 +7,8 @@ use lib.Dec.{ltb}
 use Rattle.fields.specs.Lists.{typ23}
 use Rattle.fields.specs.Fields.{fields, stores, lowest}
 use Rattle.dates.specs.Stamps.{dayOf}
-use Rattle.rules.specs.Claim.{_≤?_, Rule, rule, first}
-use Rattle.ticket.specs.Kind.{kind, countOf, mostOf, limit}
+use Rattle.rules.specs.Claim.{first}
+use Rattle.ticket.specs.Kind.{kind, mostOf, fieldRule, setRules}
 use Rattle.ticket.specs.declared.Record.{Record}
 use Rattle.ticket.specs.declared.Changed.{Changed}
 use Rattle.ticket.specs.declared.Value.{Value}
@@ -20,18 +20,12 @@ answer n t = record { number = n; entry = 0; next = t }
 abbrev pub with : Record → ℕ → ℕ → Record
 with t n v = record { values = set (t .values) (n - 1) v }
 
--- the checks in order: 25 (a field number not 1 to 22), 26 (a value above its limit)
-abbrev pub fieldRules : ℕ → List Rule
-fieldRules n = rule 25 (1 ≤? n) ∷ rule 25 (n ≤? countOf kind) ∷ []
-
-abbrev pub setRules : ℕ → ℕ → List Rule
-setRules n v = rule 25 (1 ≤? n) ∷ rule 25 (n ≤? countOf kind) ∷ rule 26 (v ≤? limit kind n) ∷ []
-
+-- 25, 26 of a step; 25 of a value
 unfoldable pub setNumber : ℕ → ℕ → ℕ
 setNumber n v = first (setRules n v)
 
 unfoldable pub valueNumber : ℕ → ℕ
-valueNumber n = first (fieldRules n)
+valueNumber n = first (fieldRule n ∷ [])
 
 -- the next record; refused, the record as it was
 abbrev pub nextOf : ℕ → Record → ℕ → ℕ → Record

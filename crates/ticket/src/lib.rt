@@ -1,14 +1,24 @@
-// A ticket of TYP 23 revision 2: what its kind is, its record of twenty-two values, and the record and the header at the front of a slice.
+// A ticket of TYP 23 revision 2: what its kind is, its record of twenty-two values, and both as bytes.
 use fields::Layout;
+use fields::Span;
 ghost use mathlib.Core.Path.{_≡_};
-ghost use Prim.Native.Nat.{_*_, _^_, _≤_, _<_};
-ghost use lib.ListN.{length};
-ghost use Rattle.fields.specs.Lists.{listOf};
-ghost use Rattle.rules.specs.Claim.{first};
-ghost use Rattle.fields.specs.Fields.{stores, lowest};
-ghost use Rattle.ticket.specs.Kind.{kind, typ, revision, countOf, leastOf, restOf, mostOf, limit, kindRules};
-ghost use Rattle.ticket.specs.Header.{headerOf};
-ghost use Rattle.ticket.specs.Ticket.{setOf, valueOf, recordIn, endOf};
+ghost use mathlib.Core.List.{[], _∷_};
+ghost use Prim.Native.Nat.{_-_, _*_, _^_, _≤_, _<_};
+ghost use Rattle.rules.specs.Claim.{holds, first};
+ghost use Rattle.fields.specs.Lists.{listOf, nth};
+ghost use Rattle.fields.specs.Fields.{lowest};
+ghost use Rattle.ticket.specs.Kind.{kind, typ, revision, countOf, leastOf, restOf, mostOf, limit, fieldRule, setRules, recordRule};
+ghost use Rattle.ticket.specs.Checks.{formIn, extentIn};
+ghost use Rattle.ticket.specs.Ticket.{setOf, valueOf, endOf};
+
+mod bytes;
+
+pub use bytes::decode;
+pub use bytes::decode_header;
+pub use bytes::encode;
+pub use bytes::encode_header;
+pub use bytes::record_in;
+pub use bytes::store_record;
 
 #[repr(C)]
 pub struct Record {
@@ -71,7 +81,7 @@ pub fn revision() -> u64
 pub fn count() -> usize
     ensures { λ r. ⌜ r ≡ countOf kind ⌝ }
 {
-    22
+    fields::count(Layout::Typ23)
 }
 
 // The least 4 × IPELength.
@@ -88,25 +98,40 @@ pub fn rest() -> usize
     29
 }
 
-// 22 and 23, of a product of `size` bytes whose entry says the TYP t and whose header says the format revision f and `blocks`; 0 where neither is given.
-pub fn kind_number(t: u64, f: u64, blocks: u64, size: usize) -> usize
-    requires { ⌜ blocks < 65536 ⌝ }
-    ensures { λ r. ⌜ r ≡ first (kindRules t f blocks size) ⌝ }
+// 22: whether a product is a ticket of the kind.
+pub enum Form {
+    Ticket,
+    Other,
+}
+
+// Of a product whose entry says the TYP t and whose header says the format revision f.
+pub fn check_form(t: u64, f: u64) -> Form
+    ensures { λ r. ⌜ r ≡ formIn t f ⌝ }
 {
-    if t != typ() {
-        return rules::OTHER_KIND;
+    if (t == typ()) & (f == revision()) {
+        Form::Ticket
+    } else {
+        Form::Other
     }
-    if f != revision() {
-        return rules::OTHER_KIND;
+}
+
+// 23: where a dataset ends.
+pub enum Extent {
+    End(usize),
+    Wrong,
+}
+
+// Of a product of `size` bytes whose header says `blocks`.
+pub fn check_extent(blocks: usize, size: usize) -> Extent
+    requires { ⌜ blocks < 65536 ⌝ }
+    ensures { λ r. ⌜ r ≡ extentIn blocks size ⌝ }
+{
+    let end = 4 * blocks;
+    if (least() <= end) & (end <= size) {
+        Extent::End(end)
+    } else {
+        Extent::Wrong
     }
-    let bytes = 4 * blocks as usize;
-    if bytes < least() {
-        return rules::WRONG_EXTENT;
-    }
-    if size < bytes {
-        return rules::WRONG_EXTENT;
-    }
-    0
 }
 
 // The largest value of the field n: what its width holds; ExpiryTime ends within the day.
@@ -114,40 +139,48 @@ pub fn limit(n: usize) -> u64
     requires { ⌜ (1 ≤ n) × (n ≤ 22) ⌝ }
     ensures { λ r. ⌜ r ≡ limit kind n ⌝ }
 {
+    largest(fields::place(Layout::Typ23, n - 1), n)
+}
+
+// The same, where its place is known to be p.
+fn largest(p: Span, n: usize) -> u64
+    requires { ⌜ (1 ≤ n) × (n ≤ 22) × (p ≡ nth (listOf kind) (n - 1)) ⌝ }
+    ensures { λ r. ⌜ r ≡ limit kind n ⌝ }
+{
     if n == 9 {
         return 1439;
     }
-    fields::limit(Layout::Typ23, n - 1)
+    fields::largest(p)
 }
 
-// The largest values of all fields: proved to be those of the list, and 1,439 for ExpiryTime.
-fn all_limits() -> [u64; 22]
-    ensures { λ r. ⌜ r ≡ (mostOf kind) ⌝ }
+// 25: whether the number is that of a field.
+fn is_field(n: usize) -> bool
+    ensures { λ r. ⌜ r ≡ holds (fieldRule n .claim) ⌝ }
 {
-    [
-        255,
-        65535,
-        255,
-        3,
-        63,
-        3,
-        16383,
-        31,
-        1439,
-        31,
-        7,
-        255,
-        255,
-        255,
-        15,
-        15,
-        4294967295,
-        15,
-        4095,
-        4294967295,
-        255,
-        65535,
-    ]
+    (1 <= n) & (n <= count())
+}
+
+// 25, then 26, of a field's number and a value for it; 0 where neither is given.
+pub fn field_number(field: usize, value: u64) -> usize
+    ensures { λ r. ⌜ r ≡ first (setRules field value) ⌝ }
+{
+    if !is_field(field) {
+        return rules::NO_FIELD;
+    }
+    if limit(field) < value {
+        return rules::TOO_LARGE;
+    }
+    0
+}
+
+// 26, of a record; 0 where it is not given.
+pub fn record_number(t: Record) -> usize
+    ensures { λ r. ⌜ r ≡ first (recordRule (t .values) ∷ []) ⌝ }
+{
+    if 0 < t.lowest_bad() {
+        return rules::TOO_LARGE;
+    }
+    0
 }
 
 impl Record {
@@ -155,23 +188,10 @@ impl Record {
     pub fn set(self, field: usize, value: u64) -> Changed
         ensures { λ r. ⌜ r ≡ setOf self field value ⌝ }
     {
-        if field < 1 {
+        let number = field_number(field, value);
+        if number != 0 {
             return Changed {
-                number: rules::NO_FIELD,
-                entry: 0,
-                next: self,
-            };
-        }
-        if 22 < field {
-            return Changed {
-                number: rules::NO_FIELD,
-                entry: 0,
-                next: self,
-            };
-        }
-        if limit(field) < value {
-            return Changed {
-                number: rules::TOO_LARGE,
+                number: number,
                 entry: 0,
                 next: self,
             };
@@ -190,14 +210,7 @@ impl Record {
     pub fn value(self, field: usize) -> Value
         ensures { λ r. ⌜ r ≡ valueOf self field ⌝ }
     {
-        if field == 0 {
-            return Value {
-                number: rules::NO_FIELD,
-                entry: 0,
-                value: 0,
-            };
-        }
-        if field > 22 {
+        if !is_field(field) {
             return Value {
                 number: rules::NO_FIELD,
                 entry: 0,
@@ -216,68 +229,18 @@ impl Record {
     pub fn lowest_bad(self) -> usize
         ensures { λ r. ⌜ r ≡ lowest (mostOf kind) (self .values) ⌝ }
     {
-        let a = all_limits();
-        let v = self.values;
-        fields::first_above(&a, &v)
-    }
-}
-
-// The record of the ticket that starts with the slice.
-pub fn record_in(s: &[u8]) -> Record
-    requires { ⌜ 232 ≤ 8 * length (now s) ⌝ }
-    ensures { λ r. ⌜ r ≡ recordIn (now (s .entry)) ⌝ }
-{
-    let a = typ23::front(s);
-    let b = typ23::middle(s);
-    let c = typ23::back(s);
-    Record {
-        values: [
-            a.0,
-            a.1,
-            a.2,
-            a.3,
-            a.4,
-            a.5,
-            a.6,
-            a.7,
-            b.0,
-            b.1,
-            b.2,
-            b.3,
-            b.4,
-            b.5,
-            b.6,
-            b.7,
-            c.2,
-            c.3,
-            c.4,
-            c.5,
-            c.6,
-            c.7,
-        ],
-    }
-}
-
-// Stores a record whose values are at most their limits, in the ticket that starts with the slice.
-pub fn store_record(s: &mut [u8], t: Record)
-    requires { ⌜ (232 ≤ 8 * length (now s)) × (lowest (mostOf kind) (t .values) ≡ 0) ⌝ }
-    ensures { λ _. ⌜ now (s .exit) ≡ stores (now (s .entry)) (listOf kind) (t .values) ⌝ }
-{
-    let v = t.values;
-    typ23::store_all(s, &v)
-}
-
-// The header of the ticket that starts with the slice.
-pub fn header_in(s: &[u8]) -> Header
-    requires { ⌜ 16 ≤ 8 * length (now s) ⌝ }
-    ensures { λ r. ⌜ r ≡ headerOf (now (s .entry)) ⌝ }
-{
-    Header {
-        values: [
-            fields::value(s, Layout::Header, 0),
-            fields::value(s, Layout::Header, 1),
-            fields::value(s, Layout::Header, 2),
-        ],
+        let places = fields::typ23();
+        let values = self.values;
+        let n = count();
+        let mut i: usize = 0;
+        while i < n {
+            let p = places[i];
+            if largest(p, i + 1) < values[i] {
+                return i + 1;
+            }
+            i += 1;
+        }
+        0
     }
 }
 

@@ -1,4 +1,5 @@
 pub mod Alike
+pub mod Eights
 pub mod Compare
 pub mod Flags
 pub mod Pairs

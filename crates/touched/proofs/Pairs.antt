@@ -1,65 +1,56 @@
--- What the code of `touched` relies on: what it compares is what the definition compares, byte by byte and sector by sector. Assumes nothing.
-use mathlib.Core.Path.{_≡_, refl, sym, ap, ap₂, _∙_}
+-- What the code of `touched` relies on: what it compares is what the definition compares, sector by sector and entry by entry. Assumes nothing.
+use mathlib.Core.Path.{_≡_, refl, sym, ap₂, _∙_}
 use mathlib.Core.Logic.{_≢_}
 use mathlib.Core.Bool.{Bool, true, false, _&&_}
 use mathlib.Core.List.{List}
 use Prim.Native.Nat.{ℕ, zero, suc, _+_, _-_, _*_, _≤_, _<_}
-use native.Mathlib.Nat.{mul-le-mul}
-use native.Mathlib.Decide.{decLt}
+use native.Mathlib.Numerals.{add-one}
 use native.Mathlib.Omega.{arith}
 use lib.Dec.{eqb}
-use lib.ListN.{length, getD, take, drop, set, length-drop, length-set}
-use native.Mathlib.Numerals.{add-one}
-use lib.Seq.{take-all, take-suc-set, length-take-le, getD-take, getD-drop, ext-getD}
+use lib.ListN.{length, take, drop, set, length-set}
+use lib.Seq.{take-all, take-suc-set}
 use borrow.Author.Tests.{eq-eqb, ne-eqb}
 use Rattle.bits.specs.Bits.{field, pick}
-use Rattle.chains.specs.Chain.{Sector, fresh, used, blocked, Names, Link, end, to, bad, link}
+use Rattle.chains.specs.Chain.{Sector, fresh, used, blocked, Names, zero-met, above-met, comes-back, Link, end, to, bad, link}
 use Rattle.chains.specs.Packed.{packed}
+use Rattle.chains.specs.declared.Table.{Table}
 use Rattle.chains.proofs.Laws.{View, v-end, v-to, v-bad, view, chain-short}
-use Rattle.image.specs.Image.{B, S, sectorAt, entryAt, isProduct, element, sectors, sector, product}
+use Rattle.image.specs.Image.{B, S, isProduct, element, sector, product}
 use Rattle.image.specs.Obeys.{IsProduct}
+use Rattle.image.specs.Shape.{Shaped, tableOf, sectorPlace, entryPlace}
 use Rattle.image.specs.declared.Shape.{Shape}
 use Rattle.image.proofs.Exact.{test-product, product-sector}
 use Rattle.image.proofs.Stays.{chain-of}
 use Rattle.image.proofs.First.{length-sector}
 use Rattle.image.proofs.Same.{before-directory}
+use Rattle.image.proofs.Shapes.{sector-is, entry-is}
 use Rattle.steps.specs.Touched.{forty, alike, sameProduct, kept, flagOf, flagsTo}
 use Rattle.touched.specs.Together.{onward, sameFrom, chainsSame, linkNext, nextSame, Both}
-use Rattle.touched.proofs.Alike.{alike-so, so-alike, together}
-use Rattle.steps.proofs.Calls.{place-is}
+use Rattle.touched.proofs.Alike.{together}
 
--- ---- bytes
+-- ---- one sector and its element, by the shape
 
-pub alike-differ : (xs ys : List ℕ) (k : ℕ) → getD xs k 0 ≢ getD ys k 0 → alike xs ys ≡ false
-alike-differ xs ys k d = go (alike xs ys) refl
-  where
-    go : (b : Bool) → alike xs ys ≡ b → b ≡ false
-    go true e = absurd (d (ap (λ (l : List ℕ). getD l k 0) (alike-so xs ys e)))
-    go false e = refl
+sector-of : {c : List ℕ} {g : Shape} → Shaped c g → (i : ℕ) → take (g .size) (drop (sectorPlace g i) c) ≡ sector c i
+unfolding sector
+sector-of {c} s i = ap₂ (λ (n a : ℕ). take n (drop a c)) (s .size-is) (sector-is s i)
 
-part-get : (l : List ℕ) (a n k : ℕ) → k < n → getD (take n (drop a l)) k 0 ≡ getD l (a + k) 0
-part-get l a n k h = rw (getD-take, getD-drop)
+element-of : {c : List ℕ} {g : Shape} {t : Table} → Shaped c g → t ≡ tableOf g → (i x : ℕ) → x ≡ packed c (t .first) (t .psi) i → x ≡ element c i
+unfolding element
+element-of s k i x e = e ∙ rw (k, s .table-is, s .psi-is)
 
--- the bytes from a on are the same up to k
-abbrev pub SameTo : List ℕ → List ℕ → ℕ → ℕ → Type 0
-SameTo c d a k = (j : ℕ) → j < k → getD c (a + j) 0 ≡ getD d (a + j) 0
+names-none : {s i x : ℕ} {l : Link} → View s i x l → (Names s i x → ⊥) → 0 ≡ linkNext l
+names-none (v-end a) h = refl
+names-none (v-to n) h = absurd (h n)
+names-none (v-bad a) h = refl
 
-pub bytes-differ : (c d : List ℕ) (a n k : ℕ) → k < n → getD c (a + k) 0 ≢ getD d (a + k) 0 → false ≡ alike (take n (drop a c)) (take n (drop a d))
-bytes-differ c d a n k h e =
-    sym (alike-differ (take n (drop a c)) (take n (drop a d)) k (λ q. e (sym (part-get c a n k h) ∙ q ∙ part-get d a n k h)))
-
-pub bytes-same : (c d : List ℕ) (a n k : ℕ) → a + n ≤ length c → a + n ≤ length d → n ≤ k → SameTo c d a k → true ≡ alike (take n (drop a c)) (take n (drop a d))
-bytes-same c d a n k hc hd l h =
-    let x = length-take-le n (drop a c) (omega (arith, length-drop a c)) in
-    let y = length-take-le n (drop a d) (omega (arith, length-drop a d)) in
-    let e = ext-getD 0 (take n (drop a c)) (take n (drop a d)) (x ∙ sym y)
-    (λ j u. part-get c a n j (omega arith) ∙ h j (omega arith) ∙ sym (part-get d a n j (omega arith))) in
-    rw e (sym (so-alike (take n (drop a d))))
-
-pub same-more : (c d : List ℕ) (a k : ℕ) → getD c (a + k) 0 ≡ getD d (a + k) 0 → SameTo c d a k → SameTo c d a (k + 1)
-same-more c d a k e h j l = elim (decLt j k) [ yes z ↦ h j z | no z ↦ let q : j ≡ k = omega arith in rw q e ]
-
--- ---- one sector and its element
+names-next : {s i x : ℕ} {l : Link} → View s i x l → x ≢ i → x ≤ s - 3 → 4 ≤ s → x ≡ linkNext l
+names-next (v-end (fresh e)) a h k = absurd (a e)
+names-next (v-end (used e)) a h k = absurd (omega arith)
+names-next (v-end (blocked e)) a h k = absurd (omega arith)
+names-next (v-to n) a h k = refl
+names-next (v-bad (zero-met e)) a h k = e
+names-next (v-bad (above-met e)) a h k = absurd (omega arith)
+names-next (v-bad (comes-back e)) a h k = absurd e
 
 module _ {c d : List ℕ} {g : Shape} (b : Both c d g) where
   pub S-is : S d ≡ S c
@@ -68,61 +59,37 @@ module _ {c d : List ℕ} {g : Shape} (b : Both c d g) where
   B-is : B d ≡ B c
   B-is = sym (b .shape-after .size-is) ∙ b .shape .size-is
 
-  at-is : (i : ℕ) → sectorAt d i ≡ sectorAt c i
-  unfolding sectorAt
-  at-is i = rw B-is
-
-  pub sector-in : (i : ℕ) → Sector (g .sectors) i → (4 + i * g .size + g .size ≤ length c) × (4 + i * g .size + g .size ≤ length d) × (i * g .size ≤ 65025)
-  sector-in i s =
+  pub sector-in : (i a : ℕ) → Sector (g .sectors) i → a ≡ sectorPlace g i → (8 ≤ g .size) × (a + g .size ≤ length c) × (a + g .size ≤ length d)
+  sector-in i a s e =
       let x = b .shape .in-bounds in
       let y = b .shape-after .in-bounds in (
-        omega (arith, place-is (b .shape) i, b .shape .size-is, x .directory-in, before-directory c x i (rw (b .shape .sectors-is) at s)),
-        omega (arith, place-is (b .shape-after) i, b .shape-after .size-is, y .directory-in, before-directory d y i (rw (b .shape-after .sectors-is) at s)),
-        mul-le-mul {n₂ = 255} {m₂ = 255} (omega (arith, s .high, b .shape .sectors-is, x .s-top)) (omega (arith, b .shape .size-is, x .b-top)),
+        omega (arith, b .shape .size-is, x .b-least),
+        omega (arith, sector-is (b .shape) i, b .shape .size-is, x .directory-in, before-directory c x i (rw (b .shape .sectors-is) at s)),
+        omega (arith, sector-is (b .shape-after) i, b .shape-after .size-is, y .directory-in, before-directory d y i (rw (b .shape-after .sectors-is) at s)),
       )
 
-  sectors-are : (i : ℕ) (r : Bool) → r ≡ alike (take (g .size) (drop (4 + i * g .size) c)) (take (g .size) (drop (4 + i * g .size) d)) → r ≡ alike (sector c i) (sector d i)
-  unfolding sector
-  sectors-are i r e =
-      e ∙ ap₂ alike
-      (ap₂ (λ (n a : ℕ). take n (drop a c)) (b .shape .size-is) (place-is (b .shape) i))
-      (ap₂ (λ (n a : ℕ). take n (drop a d)) (b .shape-after .size-is) (place-is (b .shape-after) i))
+  module _ (i : ℕ) {a : ℕ} (place : a ≡ sectorPlace g i) (r : Bool) (q : r ≡ alike (take (g .size) (drop a c)) (take (g .size) (drop a d))) where
+    sectors-are : r ≡ alike (sector c i) (sector d i)
+    sectors-are = q ∙ rw place (ap₂ alike (sector-of (b .shape) i) (sector-of (b .shape-after) i))
 
-  element-is : (i x : ℕ) → x ≡ packed c (8 * g .table) (g .psi) i → x ≡ element c i
-  unfolding element
-  element-is i x e = e ∙ rw (b .shape .table-is, b .shape .psi-is)
-
-  element-after : (i x : ℕ) → x ≡ packed d (8 * g .table) (g .psi) i → x ≡ element d i
-  unfolding element
-  element-after i x e = e ∙ rw (b .shape-after .table-is, b .shape-after .psi-is)
-
-  module _ (i : ℕ) (r : Bool) (q : r ≡ alike (take (g .size) (drop (4 + i * g .size) c)) (take (g .size) (drop (4 + i * g .size) d))) where
     pub other-sector : r ≡ false → 256 ≡ nextSame c d i
     unfolding nextSame
-    other-sector e = rw (← sectors-are i r q, e)
+    other-sector e = rw (← sectors-are, e)
 
-    module _ (x y : ℕ) (p : x ≡ packed c (8 * g .table) (g .psi) i) (o : y ≡ packed d (8 * g .table) (g .psi) i) (same : r ≡ true) where
+    module _ {t : Table} (table : t ≡ tableOf g) (x y : ℕ) (p : x ≡ packed c (t .first) (t .psi) i) (o : y ≡ packed d (t .first) (t .psi) i) (same : r ≡ true) where
+      x-element : x ≡ element c i
+      x-element = element-of (b .shape) table i x p
+
+      y-element : y ≡ element d i
+      y-element = element-of (b .shape-after) table i y o
+
       pub other-element : x ≢ y → 256 ≡ nextSame c d i
       unfolding nextSame
-      other-element h =
-          rw (← sectors-are i r q, same, ne-eqb (element c i) (element d i) (λ e. h (element-is i x p ∙ e ∙ sym (element-after i y o))))
+      other-element h = rw (← sectors-are, same, ne-eqb (element c i) (element d i) (λ e. h (x-element ∙ e ∙ sym y-element)))
 
       next-is : x ≡ y → linkNext (link (S c) i x) ≡ nextSame c d i
       unfolding nextSame
-      next-is h =
-          rw (← sectors-are i r q, same, eq-eqb (element c i) (element d i) (sym (element-is i x p) ∙ h ∙ element-after i y o), ← element-is i x p)
-
-      names-none : {l : Link} → View (S c) i x l → (Names (S c) i x → ⊥) → 0 ≡ linkNext l
-      names-none (v-end a) h = refl
-      names-none (v-to n) h = absurd (h n)
-      names-none (v-bad a n) h = refl
-
-      names-next : {l : Link} → View (S c) i x l → x ≢ i → x ≤ S c - 3 → 4 ≤ S c → x ≡ linkNext l
-      names-next (v-end (fresh e)) a h s = absurd (a e)
-      names-next (v-end (used e)) a h s = absurd (omega arith)
-      names-next (v-end (blocked e)) a h s = absurd (omega arith)
-      names-next (v-to n) a h s = refl
-      names-next (v-bad m n) a h s = elim (decLt 0 x) [ yes z ↦ absurd (n (record { other = a; sector = record { low = z; high = h } })) | no z ↦ omega arith ]
+      next-is h = rw (← sectors-are, same, eq-eqb (element c i) (element d i) (sym x-element ∙ h ∙ y-element), ← x-element)
 
       pub ends-fresh : x ≡ y → x ≡ i → 0 ≡ nextSame c d i
       ends-fresh h e = names-none (view (S c) i x) (λ n. n .other e) ∙ next-is h
@@ -143,14 +110,14 @@ module _ {c d : List ℕ} {g : Shape} (b : Both c d g) where
       go false l v e = absurd (omega arith)
       go true (end m) v e = absurd (h e)
       go true (to y) (v-to n) e = rw e (n .sector)
-      go true bad v e = absurd (h e)
+      go true (bad w) v e = absurd (h e)
 
   pub on-sector : (i x : ℕ) → x ≡ nextSame c d i → x ≢ 0 → x ≤ 255 → Sector (g .sectors) x
   on-sector i x e h k = rw (b .shape .sectors-is) (next-sector i x e h k)
 
-  by-next : (i n x : ℕ) → n ≢ 0 → x ≡ nextSame c d i → (r : Bool) → (x ≡ 0 → r ≡ true) → (255 < x → r ≡ false) → (x ≢ 0 → x ≤ 255 → r ≡ chainsSame c d x (n - 1)) → r ≡ chainsSame c d i n
+  by-next : (i n x : ℕ) → 0 < n → x ≡ nextSame c d i → (r : Bool) → (x ≡ 0 → r ≡ true) → (255 < x → r ≡ false) → (x ≢ 0 → x ≤ 255 → r ≡ chainsSame c d x (n - 1)) → r ≡ chainsSame c d i n
   unfolding nextSame sameFrom
-  by-next i zero x z e r a f o = absurd (z refl)
+  by-next i zero x z e r a f o = absurd (omega arith)
   by-next i (suc n) x z e r a f o =
       go (alike (sector c i) (sector d i)) (eqb (element c i) (element d i)) (link (S c) i (element c i)) (view (S c) i (element c i)) e
     where
@@ -164,20 +131,20 @@ module _ {c d : List ℕ} {g : Shape} (b : Both c d g) where
           let t = b .shape .in-bounds in
           let one : suc n - 1 ≡ n = omega arith in
           rw (← e, ← one) (o (λ q. omega (arith, q, e, s .low)) (omega (arith, e, s .high, t .s-top)))
-      go true true bad v e = a e
+      go true true (bad w) v e = a e
 
-  pub chain-none : (i n : ℕ) → n ≡ 0 → true ≡ chainsSame c d i n
+  pub chain-none : (i n : ℕ) → n ≤ 0 → true ≡ chainsSame c d i n
   unfolding sameFrom
-  chain-none i n e = rw e
+  chain-none i n h = let e : n ≡ 0 = omega arith in rw e
 
-  pub chain-ends : (i n x : ℕ) → n ≢ 0 → x ≡ nextSame c d i → x ≡ 0 → true ≡ chainsSame c d i n
+  pub chain-ends : (i n x : ℕ) → 0 < n → x ≡ nextSame c d i → x ≡ 0 → true ≡ chainsSame c d i n
   chain-ends i n x z e h = by-next i n x z e true (λ q. refl) (λ q. absurd (omega arith)) (λ q l. absurd (q h))
 
-  pub chain-differs : (i n x : ℕ) → n ≢ 0 → x ≡ nextSame c d i → 255 < x → false ≡ chainsSame c d i n
+  pub chain-differs : (i n x : ℕ) → 0 < n → x ≡ nextSame c d i → 255 < x → false ≡ chainsSame c d i n
   chain-differs i n x z e h = by-next i n x z e false (λ q. absurd (omega arith)) (λ q. refl) (λ q l. absurd (omega arith))
 
-  pub chain-goes : (i n x : ℕ) → n ≢ 0 → x ≡ nextSame c d i → x ≢ 0 → x ≤ 255 → (r : Bool) → r ≡ chainsSame c d x (n - 1) → r ≡ chainsSame c d i n
-  chain-goes i n x z e h k r q = by-next i n x z e r (λ y. absurd (h y)) (λ y. absurd (omega arith)) (λ y l. q)
+  pub chain-goes : (i n x : ℕ) → 0 < n → x ≡ nextSame c d i → x ≢ 0 → x ≤ 255 → chainsSame c d x (n - 1) ≡ chainsSame c d i n
+  chain-goes i n x z e h k = by-next i n x z e (chainsSame c d x (n - 1)) (λ y. absurd (h y)) (λ y. absurd (omega arith)) (λ y l. refl)
 
   -- with S - 3 sectors allowed the walk sees the whole product
   pub whole-chain : (j : ℕ) → IsProduct c j → IsProduct d j → chainsSame c d j (S c - 3) ≡ sameProduct c d j
@@ -193,20 +160,12 @@ module _ {c d : List ℕ} {g : Shape} (b : Both c d g) where
 
   -- ---- entries
 
-  entry-at : (j : ℕ) → 8 * (g .directory + 2 + 5 * (j - 1)) ≡ 8 * entryAt c j
-  unfolding entryAt
-  entry-at j = rw (b .shape .directory-is)
-
-  entry-at-after : (j : ℕ) → 8 * (g .directory + 2 + 5 * (j - 1)) ≡ 8 * entryAt d j
-  unfolding entryAt
-  entry-at-after j = rw (b .shape-after .directory-is)
-
-  module _ (j x y : ℕ) (p : x ≡ field c (8 * (g .directory + 2 + 5 * (j - 1))) 40) (o : y ≡ field d (8 * (g .directory + 2 + 5 * (j - 1))) 40) where
+  module _ (j : ℕ) {a : ℕ} (place : a ≡ entryPlace g j) (x y : ℕ) (p : x ≡ field c (8 * a) 40) (o : y ≡ field d (8 * a) 40) where
     x-is : x ≡ forty c j
-    x-is = p ∙ ap (λ (a : ℕ). field c a 40) (entry-at j)
+    x-is = p ∙ rw (place, entry-is (b .shape) j)
 
     y-is : y ≡ forty d j
-    y-is = o ∙ ap (λ (a : ℕ). field d a 40) (entry-at-after j)
+    y-is = o ∙ rw (place, entry-is (b .shape-after) j)
 
     pub other-bits : x ≢ y → false ≡ kept c d j
     unfolding kept

@@ -16,7 +16,7 @@ use Rattle.steps.specs.Touched.{alike}
 abbrev pub onward : Link → (ℕ → Bool) → Bool
 onward (end m) k = true
 onward (to x) k = k x
-onward bad k = true
+onward (bad w) k = true
 
 -- from sector i on, with n sectors still allowed: the elements f and g are the same, and so are the sectors, by the test t
 unfoldable pub sameFrom : (ℕ → ℕ) → (ℕ → ℕ) → (ℕ → Bool) → ℕ → ℕ → ℕ → Bool
@@ -31,7 +31,7 @@ chainsSame c d i n = sameFrom (element c) (element d) (λ k. alike (sector c k) 
 abbrev pub linkNext : Link → ℕ
 linkNext (end m) = 0
 linkNext (to x) = x
-linkNext bad = 0
+linkNext (bad w) = 0
 
 -- the next sector of both chains at sector i; 0 where they end, 256 where sector or element differ
 unfoldable pub nextSame : List ℕ → List ℕ → ℕ → ℕ

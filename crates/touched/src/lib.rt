@@ -1,13 +1,11 @@
 // Which entries differ between two images.
-use chains::Table;
 use image::Checked;
 use image::Shape;
 use rules::OTHER_SHAPE;
 use rules::WRONG_FLAGS;
 use steps::Answer;
 ghost use mathlib.Core.Path.{_≡_};
-ghost use mathlib.Core.Bool.{Bool};
-ghost use Prim.Native.Nat.{_+_, _≤_};
+ghost use Prim.Native.Nat.{_+_, _-_, _≤_};
 ghost use lib.ListN.{length, take, drop};
 ghost use Rattle.rules.specs.Claim.{first};
 ghost use Rattle.chains.specs.Chain.{Sector};
@@ -15,19 +13,28 @@ ghost use Rattle.steps.specs.Answers.{answered};
 ghost use Rattle.steps.specs.Touched.{alike, kept, flagOf, flagsTo, touchedAnswer, touchedFlags};
 ghost use Rattle.touched.specs.Together.{Both, nextSame, chainsSame, shapeRules};
 
-// Whether the `count` bytes from byte `from` on are the same in both images.
+// Whether the eight bytes from byte `from` on are the same in both images.
+fn same_eight(before: &[u8], after: &[u8], from: usize) -> bool
+    requires { ⌜ (from + 8 ≤ length (now before)) × (from + 8 ≤ length (now after)) ⌝ }
+    ensures { λ r. ⌜ r ≡ alike (take 8 (drop from (now (before .entry)))) (take 8 (drop from (now (after .entry)))) ⌝ }
+{
+    bits::load(before, from, 8) == bits::load(after, from, 8)
+}
+
+// Whether the `count` bytes from byte `from` on are the same in both images: eight at a time, and the last eight, some of them once more.
 fn same_bytes(before: &[u8], after: &[u8], from: usize, count: usize) -> bool
-    requires { ⌜ (from + count ≤ length (now before)) × (from + count ≤ length (now after)) ⌝ }
+    requires { ⌜ (8 ≤ count) × (from + count ≤ length (now before)) × (from + count ≤ length (now after)) ⌝ }
     ensures { λ r. ⌜ r ≡ alike (take count (drop from (now (before .entry)))) (take count (drop from (now (after .entry)))) ⌝ }
 {
+    let last = count - 8;
     let mut k: usize = 0;
-    while k < count {
-        if before[from + k] != after[from + k] {
+    while k < last {
+        if !same_eight(before, after, from + k) {
             return false;
         }
-        k += 1;
+        k += 8;
     }
-    true
+    same_eight(before, after, from + last)
 }
 
 // The next sector of both chains at sector i, where sector and element are the same: 0 where both end, 256 where they differ.
@@ -36,14 +43,10 @@ fn next_same(before: &[u8], after: &[u8], g: Shape, i: usize) -> usize
     requires { ⌜ Sector (g .sectors) i ⌝ }
     ensures { λ r. ⌜ r ≡ nextSame (now (before .entry)) (now (after .entry)) i ⌝ }
 {
-    if !same_bytes(before, after, 4 + i * g.size, g.size) {
+    if !same_bytes(before, after, image::sector_at(g, i), g.size) {
         return 256;
     }
-    let t = Table {
-        first: 8 * g.table,
-        psi: g.psi,
-        sectors: g.sectors,
-    };
+    let t = image::table_of(g);
     let x = chains::element(before, t, i);
     if x != chains::element(after, t, i) {
         return 256;
@@ -57,23 +60,26 @@ fn next_same(before: &[u8], after: &[u8], g: Shape, i: usize) -> usize
     x
 }
 
-// Whether the chains from sector i on are the same in both images, with `allowed` sectors still allowed.
-fn same_chain(before: &[u8], after: &[u8], g: Shape, i: usize, allowed: usize) -> bool
+// Whether the chains from sector j on are the same in both images, up to S - 3 sectors of them.
+fn same_chain(before: &[u8], after: &[u8], g: Shape, j: usize) -> bool
     requires { ⌜ Both (now before) (now after) g ⌝ }
-    requires { ⌜ Sector (g .sectors) i ⌝ }
-    ensures { λ (r : Bool). ⌜ r ≡ chainsSame (now (before .entry)) (now (after .entry)) i allowed ⌝ }
+    requires { ⌜ Sector (g .sectors) j ⌝ }
+    ensures { λ r. ⌜ r ≡ chainsSame (now (before .entry)) (now (after .entry)) j (g .sectors - 3) ⌝ }
 {
-    if allowed == 0 {
-        return true;
+    let mut i = j;
+    let mut allowed = g.sectors - 3;
+    while 0 < allowed {
+        let x = next_same(before, after, g, i);
+        if x == 0 {
+            return true;
+        }
+        if 255 < x {
+            return false;
+        }
+        i = x;
+        allowed -= 1;
     }
-    let x = next_same(before, after, g, i);
-    if x == 0 {
-        return true;
-    }
-    if 255 < x {
-        return false;
-    }
-    same_chain(before, after, g, x, allowed - 1)
+    true
 }
 
 // Whether entry j is as it was.
@@ -82,14 +88,14 @@ fn same_entry(before: &[u8], after: &[u8], g: Shape, j: usize) -> bool
     requires { ⌜ (1 ≤ j) × (j ≤ g .entries) ⌝ }
     ensures { λ r. ⌜ r ≡ kept (now (before .entry)) (now (after .entry)) j ⌝ }
 {
-    let at = 8 * (g.directory + 2 + 5 * (j - 1));
+    let at = 8 * image::entry_at(g, j);
     if bits::get(before, at, 40) != bits::get(after, at, 40) {
         return false;
     }
     if !verdict::present(before, g, j) {
         return true;
     }
-    same_chain(before, after, g, j, g.sectors - 3)
+    same_chain(before, after, g, j)
 }
 
 // The flag of an entry.

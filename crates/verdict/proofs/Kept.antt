@@ -1,45 +1,41 @@
--- The pass over the entries keeps what the walk gave of one of them: before that entry it holds 0, after it the walk's number. Assumes nothing.
-use mathlib.Core.Path.{_≡_, refl, sym, ap, _∙_}
-use mathlib.Core.Bool.{true, false}
-use mathlib.Core.List.{List}
-use Prim.Native.Nat.{ℕ, _+_, _-_, _≤_, _<_}
+-- The pass over the entries keeps what it finds of one of them, `at j` of entry j: before that entry it holds 0, after it what was found. Assumes nothing.
+use mathlib.Core.Path.{_≡_, refl, sym, _∙_}
+use Prim.Native.Nat.{ℕ, _+_, _≤_, _<_}
 use native.Mathlib.Omega.{arith}
 use native.Mathlib.Decide.{ℕ-discrete, decLt}
 use lib.Dec.{eqb}
 use borrow.Author.Tests.{eq-eqb, ne-eqb}
 use Rattle.bits.specs.Bits.{pick}
-use Rattle.chains.specs.Packed.{lastLeft}
-use Rattle.image.specs.Image.{S, e#, isProduct, chain}
-use Rattle.image.specs.Found.{toldAt}
-use Rattle.image.proofs.Founds.{told-none, told-here, told-outside}
 
 -- t is what is held of entry j once the entries below k are passed
-pub record Holds (c : List ℕ) (j k t : ℕ) : Type 0 where
-  pub passed : j < k → t ≡ toldAt c j
+pub record Holds (at : ℕ → ℕ) (j k t : ℕ) : Type 0 where
+  pub passed : j < k → t ≡ at j
   pub ahead : k ≤ j → t ≡ 0
 
-module _ (c : List ℕ) (j : ℕ) where
-  pub holds-start : Holds c j 1 0
-  holds-start = record { passed = λ h. told-outside c j (λ l u. omega arith); ahead = λ h. refl }
+module _ {at : ℕ → ℕ} {j : ℕ} where
+  pub holds-start : at 0 ≡ 0 → Holds at j 1 0
+  holds-start z = record { passed = λ h. let q : j ≡ 0 = omega arith in rw q (sym z); ahead = λ h. refl }
 
-  module _ {k t : ℕ} (h : Holds c j k t) where
-    pub holds-skip : isProduct c k ≡ false → Holds c j (k + 1) t
-    holds-skip e = record {
+  module _ {k t : ℕ} (h : Holds at j k t) where
+    -- nothing is found of entry k
+    pub holds-skip : at k ≡ 0 → Holds at j (k + 1) t
+    holds-skip z = record {
       passed = λ l. elim (ℕ-discrete j k) [
-        | yes q ↦ h .ahead (omega arith) ∙ rw q (told-none c k e)
+        | yes q ↦ h .ahead (omega arith) ∙ rw q (sym z)
         | no q ↦ h .passed (omega arith)
       ];
       ahead = λ l. h .ahead (omega arith);
     }
 
-    pub holds-take : isProduct c k ≡ true → {r : ℕ} → r ≡ lastLeft (S c - 3) (chain c k) → Holds c j (k + 1) (pick (eqb k j) r t)
-    holds-take e {r} w = elim (ℕ-discrete k j) [
-      | yes q ↦ rw (eq-eqb k j q) (record { passed = λ l. rw (← q) (told-here c k e w); ahead = λ l. omega arith })
+    pub holds-take : {r : ℕ} → r ≡ at k → Holds at j (k + 1) (pick (eqb k j) r t)
+    holds-take {r} w = elim (ℕ-discrete k j) [
+      | yes q ↦ rw (eq-eqb k j q) (record { passed = λ l. rw (← q) w; ahead = λ l. omega arith })
       | no q ↦ rw (ne-eqb k j q) (record { passed = λ l. h .passed (omega arith); ahead = λ l. h .ahead (omega arith) })
     ]
 
-    pub holds-end : k ≡ e# c + 1 → t ≡ toldAt c j
-    holds-end q = elim (decLt j k) [
+    -- nothing is found from k on
+    pub holds-end : (k ≤ j → at j ≡ 0) → t ≡ at j
+    holds-end z = elim (decLt j k) [
       | yes l ↦ h .passed l
-      | no l ↦ h .ahead (omega arith) ∙ told-outside c j (λ a b. omega arith)
+      | no l ↦ h .ahead (omega arith) ∙ sym (z (omega arith))
     ]

@@ -6,9 +6,9 @@ use lib.Count.{leadingZeros}
 use lib.ListN.{length}
 use Rattle.bits.specs.Bits.{digit, bit, number, field}
 use Rattle.fields.specs.Fields.{fields, limits}
-use Rattle.chains.specs.Chain.{link, walk}
+use Rattle.chains.specs.Chain.{link, member, walkOn}
 use Rattle.chains.specs.Products as products
-use Rattle.chains.specs.Products.{member, meet, some}
+use Rattle.chains.specs.Products.{meet, some}
 use Rattle.chains.specs.Psi.{Ψ, tableBytes}
 use Rattle.crc.specs.Crc.{clock, clocks, register, crc}
 use Rattle.rules.specs.Claim.{all, first}
@@ -24,7 +24,7 @@ use Rattle.worked.specs.Worked.{at}
 
 -- the verdict, with all that it stands on opened
 unfoldable pub judge : List ℕ → Verdict
-unfolding verdict rules first all stated version copy shellValues fields dataset B S e# SCTL shellPad SECR beforeSECR sectorAt directoryAt entryAt tableAt isProduct Ψ tableBytes element tablePad chain sectors brokenAt products.brokenAt member meet some sharesAt products.sharesAt lowest field number bit digit leadingZeros walk link crc register clocks clock
+unfolding verdict rules first all stated version copy shellValues fields dataset B S e# SCTL shellPad SECR beforeSECR sectorAt directoryAt entryAt tableAt isProduct Ψ tableBytes element tablePad chain sectors brokenAt products.brokenAt member meet some sharesAt products.sharesAt lowest field number bit digit leadingZeros walkOn link crc register clocks clock
 judge c = verdict c
 
 -- ---- besides those marked P

@@ -4,7 +4,7 @@ use mathlib.Core.List.{List, [], _∷_, _++_}
 use Prim.Native.Nat.{ℕ}
 use lib.ListN.{replicate}
 use Rattle.bits.specs.Bits.{digit, bit, number, field}
-use Rattle.chains.specs.Chain.{Walk, found, broken, link, walk}
+use Rattle.chains.specs.Chain.{is-zero, Walk, found, broken, link, member, walkOn, walk}
 use Rattle.chains.specs.Packed.{packed}
 use Rattle.image.specs.Image.{sectors}
 use Rattle.worked.specs.Cards.{shellStart, shellSector}
@@ -17,12 +17,12 @@ walked a = walk (packed (a ∷ replicate 6 0) 0 4) 16 1 13
 
 -- 3 A: it refers to itself, never used; B: to S-2, blocked; C: to S-1, used and not blocked
 ends : (walked 0x10 ≡ found (1 ∷ []) 0) × (walked 0xE0 ≡ found (1 ∷ []) 2) × (walked 0xF0 ≡ found (1 ∷ []) 1)
-unfolding walked walk link field number bit digit
+unfolding walked walkOn member link field number bit digit
 ends = (refl, refl, refl)
 
 -- 4: 0 says that the sector is free, so no chain passes it
-free : walked 0x00 ≡ broken
-unfolding walked walk link field number bit digit
+free : walked 0x00 ≡ broken (record { sector = 1; fault = is-zero; consulted = 1 })
+unfolding walked walkOn member link field number bit digit
 free = refl
 
 -- 2: the sector of entry 2 continues the chain of entry 1, where entry 2 is empty

@@ -2,56 +2,48 @@
 use fields::Layout;
 use image::Found;
 use image::Shape;
+use image::values;
 use rules::BLOCKED;
-use rules::NO_FIELD;
-use rules::TOO_LARGE;
+use rules::OTHER_KIND;
+use rules::WRONG_EXTENT;
 use steps::Answer;
+use ticket::Extent;
+use ticket::Form;
 use ticket::Record;
 ghost use mathlib.Core.Path.{_≡_};
 ghost use mathlib.Core.List.{[], _∷_};
-ghost use Prim.Native.Nat.{_-_, _*_, _≤_, _<_};
+ghost use Prim.Native.Nat.{_-_, _*_, _≤_};
 ghost use lib.ListN.{length};
 ghost use Rattle.fields.specs.Lists.{listOf, nth};
 ghost use Rattle.fields.specs.Fields.{stores, lowest};
 ghost use Rattle.fields.specs.Shifted.{shifted};
-ghost use Rattle.rules.specs.Claim.{_≤?_, rule, first};
-ghost use Rattle.ticket.specs.Kind.{kind, limit, countOf, mostOf};
+ghost use Rattle.rules.specs.Claim.{first};
+ghost use Rattle.ticket.specs.Kind.{kind, countOf, mostOf};
 ghost use Rattle.image.specs.Image.{sectorAt, sectors, mark};
 ghost use Rattle.image.specs.Shape.{Shaped};
 ghost use Rattle.image.specs.Product.{productAt};
 ghost use Rattle.steps.specs.Step.{write, writeAll};
-ghost use Rattle.steps.specs.Steps.{writeRules, fieldRule, recordRule, answer, next};
+ghost use Rattle.steps.specs.Steps.{kindOf, writeRules, answer, next};
 ghost use Rattle.image.specs.Obeys.{Present};
 ghost use Rattle.steps.specs.Answers.{answered};
 
-// TYP of a product's entry.
-fn typ(image: &[u8], g: Shape, entry: usize) -> u64
-    requires { ⌜ Shaped (now image) g ⌝ }
-    requires { ⌜ (1 ≤ entry) × (entry ≤ g .entries) ⌝ }
-    ensures { λ r. ⌜ r ≡ productAt (now (image .entry)) entry .typ ⌝ }
-{
-    let at = g.directory + 2 + 5 * (entry - 1);
-    fields::value(&image[at..], Layout::Entry, 2)
-}
-
-// The revision in a product's header.
-fn revision(image: &[u8], g: Shape, entry: usize) -> u64
+// 22 and 23 of a product of `size` bytes; 0 where neither is given. It has one caller, so that each place folds to a constant.
+fn kind_number(image: &[u8], g: Shape, entry: usize, size: usize) -> usize
     requires { ⌜ Shaped (now image) g ⌝ }
     requires { ⌜ Present (now image) entry ⌝ }
-    ensures { λ r. ⌜ r ≡ productAt (now (image .entry)) entry .revision ⌝ }
+    requires { ⌜ size ≡ productAt (now image) entry .size ⌝ }
+    ensures { λ r. ⌜ r ≡ first (kindOf (productAt (now (image .entry)) entry)) ⌝ }
 {
-    let at = 4 + entry * g.size;
-    fields::value(&image[at..], Layout::Header, 2)
-}
-
-// IPELength, in a product's header.
-fn blocks(image: &[u8], g: Shape, entry: usize) -> u64
-    requires { ⌜ Shaped (now image) g ⌝ }
-    requires { ⌜ Present (now image) entry ⌝ }
-    ensures { λ r. ⌜ (r ≡ productAt (now (image .entry)) entry .blocks) × (r < 65536) ⌝ }
-{
-    let at = 4 + entry * g.size;
-    fields::value(&image[at..], Layout::Header, 0)
+    let typ = values::of_entry(image, g, entry, 2);
+    let revision = values::of_product(image, g, entry, Layout::Header, 2);
+    let Form::Ticket = ticket::check_form(typ, revision) else {
+        return OTHER_KIND;
+    };
+    let blocks = values::of_product(image, g, entry, Layout::Header, 0);
+    let Extent::End(_) = ticket::check_extent(blocks as usize, size) else {
+        return WRONG_EXTENT;
+    };
+    0
 }
 
 // 27, 22 and 23 of a write on a product of `count` sectors; 0 where none is given.
@@ -64,36 +56,7 @@ fn write_number(image: &[u8], g: Shape, entry: usize, count: usize, marked: u8) 
     if 1 < marked {
         return BLOCKED;
     }
-    let t = typ(image, g, entry);
-    let r = revision(image, g, entry);
-    let b = blocks(image, g, entry);
-    ticket::kind_number(t, r, b, count * g.size)
-}
-
-// 25 and 26 of a field write; 0 where neither is given.
-fn field_number(field: usize, value: u64) -> usize
-    ensures { λ r. ⌜ r ≡ first (fieldRule field ∷ rule 26 (value ≤? limit kind field) ∷ []) ⌝ }
-{
-    if field < 1 {
-        return NO_FIELD;
-    }
-    if ticket::count() < field {
-        return NO_FIELD;
-    }
-    if ticket::limit(field) < value {
-        return TOO_LARGE;
-    }
-    0
-}
-
-// 26 of a record write; 0 where it is not given.
-fn record_number(t: Record) -> usize
-    ensures { λ r. ⌜ r ≡ first (recordRule (t .values) ∷ []) ⌝ }
-{
-    if 0 < t.lowest_bad() {
-        return TOO_LARGE;
-    }
-    0
+    kind_number(image, g, entry, count * g.size)
 }
 
 // Stores a field of the product, in the part of the image that is its first sector.
@@ -103,7 +66,7 @@ fn store_field(image: &mut [u8], g: Shape, entry: usize, field: usize, value: u6
     ensures { λ _. ⌜ now (image .exit) ≡ stores (now (image .entry)) (shifted (8 * sectorAt (now (image .entry)) entry) (nth (listOf kind) (field - 1) ∷ [])) (value ∷ []) ⌝ }
 {
     let p = fields::place(Layout::Typ23, field - 1);
-    let from = 4 + entry * g.size;
+    let from = image::sector_at(g, entry);
     let to = from + g.size;
     bits::put(&mut image[from..to], p.0 as usize, p.1 as usize, value)
 }
@@ -115,7 +78,7 @@ fn store_record(image: &mut [u8], g: Shape, entry: usize, t: Record)
     requires { ⌜ lowest (mostOf kind) (t .values) ≡ 0 ⌝ }
     ensures { λ _. ⌜ now (image .exit) ≡ stores (now (image .entry)) (shifted (8 * sectorAt (now (image .entry)) entry) (listOf kind)) (t .values) ⌝ }
 {
-    let from = 4 + entry * g.size;
+    let from = image::sector_at(g, entry);
     let to = from + g.size;
     ticket::store_record(&mut image[from..to], t)
 }
@@ -125,12 +88,14 @@ pub fn write_field(image: &mut [u8], entry: usize, field: usize, value: u64) -> 
     ensures { λ r. ⌜ (r ≡ answered (answer (now (image .entry)) (write entry field value))) × (now (image .exit) ≡ next (now (image .entry)) (write entry field value)) ⌝ }
 {
     match verdict::find(image, entry) {
-        Found::There(g, _, count, marked) => {
+        Found::There(last, count) => {
+            let g = verdict::shape_of(image);
+            let marked = image::mark_of(image, g, last);
             let n = write_number(image, g, entry, count, marked);
             if n != 0 {
                 return Answer::Refused(n, entry);
             }
-            let m = field_number(field, value);
+            let m = ticket::field_number(field, value);
             if m != 0 {
                 return Answer::Refused(m, entry);
             }
@@ -146,12 +111,14 @@ pub fn write_record(image: &mut [u8], entry: usize, t: Record) -> Answer
     ensures { λ r. ⌜ (r ≡ answered (answer (now (image .entry)) (writeAll entry (t .values)))) × (now (image .exit) ≡ next (now (image .entry)) (writeAll entry (t .values))) ⌝ }
 {
     match verdict::find(image, entry) {
-        Found::There(g, _, count, marked) => {
+        Found::There(last, count) => {
+            let g = verdict::shape_of(image);
+            let marked = image::mark_of(image, g, last);
             let n = write_number(image, g, entry, count, marked);
             if n != 0 {
                 return Answer::Refused(n, entry);
             }
-            let m = record_number(t);
+            let m = ticket::record_number(t);
             if m != 0 {
                 return Answer::Refused(m, entry);
             }

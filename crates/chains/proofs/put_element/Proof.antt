@@ -11,13 +11,13 @@ sub-put : tie.Need-sub-put
 sub-put c = search needs
 
 mul-put : tie.Need-mul-put
-mul-put c = let a = c .before .before .before .args in omega (arith, small (a .t .psi) (a .i) (search needs) (search needs))
+mul-put c = let a = c .before .before .before .args in omega (arith, small (a .t .psi) (a .i - 1) (search needs) (search needs))
 
 add-put : tie.Need-add-put
-add-put c = let a = c .before .before .before .before .args in omega (arith, small (a .t .psi) (a .i) (search needs) (search needs))
+add-put c = let a = c .before .before .before .before .args in omega (arith, small (a .t .psi) (a .i - 1) (search needs) (search needs))
 
 put-requires : tie.Need-put-requires
-put-requires c κs = let a = c .before .before .before .before .args in omega (arith, small (a .t .psi) (a .i) (search needs) (search needs), inside (a .t .psi) (a .i) (a .t .sectors - 3) (search needs) (search needs))
+put-requires c κs = let a = c .before .before .before .before .args in omega (arith, small (a .t .psi) (a .i - 1) (search needs) (search needs), inside (a .t .psi) (a .i) (a .t .sectors - 3) (search needs) (search needs))
 
 same-length : tie.Need-same-length
 same-length c = search needs

@@ -1,11 +1,16 @@
--- `crc::one` meets its contract: its shifts are 8 clocks. Assumes nothing.
+-- `crc::one` meets its contract: the register's low byte takes part in the clocks, and its high byte moves down. Assumes nothing.
 use borrow.Author.Needs.{needs}
-use Rattle.crc.proofs.Many.{law8}
+use Rattle.crc.proofs.Many.{one-law}
 use Rattle.crc.proofs.one.Statement.{statement}
 use Rattle.crc.proofs.one.Tie as tie
 
+clocked-requires : tie.Need-clocked-requires
+clocked-requires c κs = search needs
+
 returns : tie.Need-returns
-returns c = law8 (c .args .r) (c .args .w) (search needs) (search needs)
+returns c =
+    let a = c .before .args in
+    one-law (a .r) (a .w) (c .clocked .result) (search needs) (search needs) (c .clocked .ensures .0)
 
 pub one-spec : {M : Type 1} → statement M
-one-spec = tie.close (tie.spec returns)
+one-spec = tie.close (tie.spec clocked-requires returns)

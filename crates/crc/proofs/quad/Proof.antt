@@ -25,7 +25,7 @@ returns c =
     let a = c .before .before .before in
     let x = c .before .pair in
     let y = c .pair2 in
-    (both-law 2 (a .args .s .now) (a .args .i) (x .result) (y .result) (search needs) (x .ensures .0) (y .ensures .0), omega arith)
+    (both-law 2 2 (a .args .s .now) (a .args .i) (x .result) (y .result) (search needs) (x .ensures .0) (y .ensures .0), omega arith)
 
 pub quad-spec : {M : Type 1} → statement M
 quad-spec =

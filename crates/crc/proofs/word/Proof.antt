@@ -24,7 +24,7 @@ returns c =
     let a = c .before .before .before in
     let x = c .before .quad in
     let y = c .quad2 in
-    both-law 4 (a .args .s .now) (a .args .i) (x .result) (y .result) (search needs) (x .ensures .0) (y .ensures .0)
+    both-law 4 4 (a .args .s .now) (a .args .i) (x .result) (y .result) (search needs) (x .ensures .0) (y .ensures .0)
 
 pub word-spec : {M : Type 1} → statement M
 word-spec =

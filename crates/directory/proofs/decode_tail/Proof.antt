@@ -1,48 +1,20 @@
--- `directory::decode_tail` meets its contract: each value is read at its place. Assumes nothing.
-use Rattle.fields.specs.Fields.{fields}
+-- `directory::decode_tail` meets its contract: the list is read from the six bytes. Assumes nothing.
 use borrow.Author.Needs.{needs}
 use Rattle.directory.proofs.decode_tail.Statement.{statement}
 use Rattle.directory.proofs.decode_tail.Tie as tie
 
-slice-aggregate-value : tie.Need-slice-aggregate-value
-slice-aggregate-value c = search needs
+slice-aggregate-read : tie.Need-slice-aggregate-read
+slice-aggregate-read c = search needs
 
-value-requires : tie.Need-value-requires
-value-requires c κs = search needs
+slice-aggregate-read-2 : tie.Need-slice-aggregate-read-2
+slice-aggregate-read-2 c = search needs
 
-slice-aggregate-value-2 : tie.Need-slice-aggregate-value-2
-slice-aggregate-value-2 c = search needs
-
-value-requires-2 : tie.Need-value-requires-2
-value-requires-2 c κs = search needs
-
-slice-aggregate-value-3 : tie.Need-slice-aggregate-value-3
-slice-aggregate-value-3 c = search needs
-
-value-requires-3 : tie.Need-value-requires-3
-value-requires-3 c κs = search needs
-
-slice-aggregate-value-4 : tie.Need-slice-aggregate-value-4
-slice-aggregate-value-4 c = search needs
-
-value-requires-4 : tie.Need-value-requires-4
-value-requires-4 c κs = search needs
+read-requires : tie.Need-read-requires
+read-requires c κs = search needs
 
 returns : tie.Need-returns
-unfolding fields
-returns c =
-    rw (c .before .before .before .before .before .before .value .ensures, c .before .before .before .before .value2 .ensures, c .before .before .value3 .ensures, c .value4 .ensures)
+returns c = rw (c .before .read .ensures)
 
 pub decode-tail-spec : {M : Type 1} → statement M
 decode-tail-spec =
-    tie.close
-    (tie.spec
-    slice-aggregate-value
-    value-requires
-    slice-aggregate-value-2
-    value-requires-2
-    slice-aggregate-value-3
-    value-requires-3
-    slice-aggregate-value-4
-    value-requires-4
-    returns)
+    tie.close (tie.spec slice-aggregate-read slice-aggregate-read-2 read-requires returns)

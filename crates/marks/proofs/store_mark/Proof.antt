@@ -1,6 +1,6 @@
 -- `marks::store_mark` meets its contract: the directory sector comes back with the element stored, which is the element stored in the image. Assumes nothing.
 use native.Mathlib.Omega.{arith}
-use Rattle.steps.proofs.Calls.{part-long}
+use Rattle.image.proofs.Places.{part-long}
 use Rattle.marks.proofs.Stored.{table-inside, mark-placed}
 use borrow.Author.Needs.{needs}
 use Rattle.marks.proofs.store_mark.Statement.{statement}

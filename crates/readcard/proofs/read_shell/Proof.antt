@@ -5,7 +5,7 @@ use Rattle.image.specs.Image.{shellValues}
 use Rattle.image.proofs.Accepted.{Open, accepted-open, refused-shut}
 use Rattle.reads.specs.Card.{readShell}
 use Rattle.reads.proofs.Given.{values-refused, none-named}
-use Rattle.reads.proofs.Places.{from-is, from-length}
+use Rattle.image.proofs.Places.{from-is, from-length}
 use borrow.Author.Needs.{needs}
 use Rattle.readcard.proofs.read_shell.Statement.{statement}
 use Rattle.readcard.proofs.read_shell.Tie as tie

@@ -1,6 +1,6 @@
 -- `readticket::fill` meets its contract: `take` has filled the buffer and tells the dataset's end. Assumes nothing.
 use mathlib.Core.Path.{sym, _∙_}
-use Rattle.readchecks.proofs.Taken.{judged-taken, judged-refused}
+use Rattle.readticket.proofs.Taken.{judged-taken, judged-refused}
 use Rattle.readticket.proofs.TwoCalls.{fill-taken, fill-refused}
 use borrow.Author.Needs.{needs}
 use Rattle.readticket.proofs.fill.Statement.{statement}

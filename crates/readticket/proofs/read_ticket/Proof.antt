@@ -1,16 +1,15 @@
 -- `readticket::read_ticket` meets its contract: `take` has filled the buffer, and what is read is read of the first sector. Assumes nothing.
 use mathlib.Core.Path.{sym, ap, _∙_}
 use native.Mathlib.Omega.{arith}
-use Prim.Native.Nat.{_+_, _*_}
+use Prim.Native.Nat.{_+_, _≤_}
 use lib.ListN.{length}
-use Rattle.fields.specs.declared.Layout.the-variants.{Typ23}
 use Rattle.ticket.specs.declared.Record.{Record}
 use Rattle.ticket.specs.Ticket.{endOf}
-use Rattle.reads.proofs.Places.{from-length}
-use Rattle.reads.proofs.Sectors.{first-fields}
-use Rattle.readchecks.specs.declared.Sound.{Sound}
-use Rattle.readchecks.proofs.Taken.{Taking, judged-taken, judged-refused}
-use Rattle.readticket.proofs.TwoCalls.{sound-shape, start-within, day-below, minutes-below, read-taken, read-refused}
+use Rattle.image.specs.Shape.{sectorPlace}
+use Rattle.image.proofs.Places.{from-length}
+use Rattle.readticket.specs.declared.checks.Sound.{Sound}
+use Rattle.readticket.proofs.Taken.{Taking, judged-taken, judged-refused}
+use Rattle.readticket.proofs.TwoCalls.{start-within, start-fields, day-below, minutes-below, read-taken, read-refused}
 use borrow.Author.Needs.{needs}
 use Rattle.readticket.proofs.read_ticket.Statement.{statement}
 use Rattle.readticket.proofs.read_ticket.Tie as tie
@@ -25,36 +24,38 @@ take-requires c κs = search needs
 enum-known-sound : tie.Need-enum-known-sound
 enum-known-sound c = search needs
 
-mul-start : tie.Need-mul-start
-mul-start c = omega (arith, start-within _ _ _ (taking (c .before .before)))
+shape-of-requires : tie.Need-shape-of-requires
+shape-of-requires c κs = taking (c .before) .known .opened .shape .in-bounds
 
-add-start : tie.Need-add-start
-add-start c = omega (arith, start-within _ _ _ (taking (c .before .before)))
+-- the product's first thirty-two bytes
+within : (c : tie.After-shape-of) → (let o = c .before .before .before .before .before .before .before .before .before .before in let g = c .shape-of .result in
+    (o .args .entry ≤ 255) × (g .size ≤ 255) × (sectorPlace g (o .args .entry) + 32 ≤ length (o .args .image .now)))
+within c = start-within _ _ _ (taking (c .before .before)) (c .shape-of .ensures)
+
+sector-at-requires : tie.Need-sector-at-requires
+sector-at-requires c κs = let w = within c in (w .0, w .1)
 
 sub-first : tie.Need-sub-first
-sub-first c = omega (arith, start-within _ _ _ (taking (c .before .before)))
+sub-first c = omega (arith, c .sector-at .ensures, within (c .before))
 
 part-first-start : tie.Need-part-first-start
-part-first-start c = omega (arith, start-within _ _ _ (taking (c .before .before)))
+part-first-start c = omega (arith, c .sector-at .ensures, within (c .before))
 
 part-first-end : tie.Need-part-first-end
 part-first-end c = search needs
 
 record-in-requires : tie.Need-record-in-requires
-record-in-requires c κs =
-    let t = c .before .before .before in
-    let a = t .before .before .before .before .before .before .before .before .args in
-    rw (from-length (a .image .now) (4 + a .entry * t .sound .given .0 .0 .shape .size)) (omega (arith, start-within _ _ _ (taking t)))
+record-in-requires c κs = simp from-length (omega (arith, c .before .sector-at .ensures, within (c .before .before)))
 
 end-requires : tie.Need-end-requires
 end-requires c κs =
-    let k = taking (c .before .before .before .before .before) in
+    let k = taking (c .before .before .before .before .before .before) in
     let d = day-below _ _ _ k in
     let m = minutes-below _ _ _ k in
     (omega (arith, d, m), omega (arith, d, m))
 
-cast-t15 : tie.Need-cast-t15
-cast-t15 c = search needs
+cast-t17 : tie.Need-cast-t17
+cast-t17 c = search needs
 
 enum-known-n : tie.Need-enum-known-n
 enum-known-n c = search needs
@@ -64,11 +65,12 @@ same-length c = search needs
 
 returns : tie.Need-returns
 returns c =
-    let o = c .before .before .before .before .before .before .before in
+    let s = c .before .before .before .before .before in
+    let g = s .before in
+    let o = g .before .before in
     let k = taking o in
-    let s = sound-shape _ _ _ k in
-    let t = k .known .there in
-    (read-taken _ _ _ k (ap (λ (r : Record). r .values) (c .before .before .before .record-in .ensures) ∙ first-fields s t Typ23 (omega arith)) (c .before .end .ensures ∙ ap (λ (f : Sound). endOf (f .day) (f .minutes)) (k .sound-is)), o .before .before .before .before .take .ensures .1)
+    let v = ap (λ (r : Record). r .values) (c .before .before .before .record-in .ensures) in
+    (read-taken _ _ _ k (rw (s .sector-at .ensures) at v ∙ start-fields _ _ _ k (g .shape-of .ensures)) (c .before .end .ensures ∙ ap (λ (f : Sound). endOf (f .day) (f .minutes)) (k .sound-is)), o .before .before .before .before .take .ensures .1)
 
 same-length-2 : tie.Need-same-length-2
 same-length-2 c = search needs
@@ -84,14 +86,14 @@ read-ticket-spec =
     (tie.spec
     take-requires
     enum-known-sound
-    mul-start
-    add-start
+    shape-of-requires
+    sector-at-requires
     sub-first
     part-first-start
     part-first-end
     record-in-requires
     end-requires
-    cast-t15
+    cast-t17
     enum-known-n
     same-length
     returns

@@ -4,8 +4,8 @@ use native.Mathlib.Omega.{arith}
 use lib.ListN.{length}
 use Rattle.reads.specs.Ticket.{bufferAfter}
 use Rattle.reads.proofs.Given.{lent-refused}
-use Rattle.reads.proofs.Sectors.{size-is}
-use Rattle.readchecks.proofs.Taken.{Taking, judged-taken, judged-refused}
+use Rattle.image.proofs.Places.{size-of}
+use Rattle.readticket.proofs.Taken.{Taking, judged-taken, judged-refused}
 use borrow.Author.Needs.{needs}
 use Rattle.readticket.proofs.take.Statement.{statement}
 use Rattle.readticket.proofs.take.Tie as tie
@@ -29,18 +29,24 @@ returns c =
     let s = judged-refused _ _ _ (sym (c .before .before .judge .ensures) ∙ c .enum-told .given .1) in
     (c .before .before .judge .ensures, rw (s .number-is) (sym (lent-refused _ _ _ (s .some))))
 
+shape-of-requires : tie.Need-shape-of-requires
+shape-of-requires c κs = taking (c .before) .known .opened .shape .in-bounds
+
 copy-product-requires : tie.Need-copy-product-requires
 copy-product-requires c κs =
-    let k = taking (c .before .before) in
+    let k = taking (c .before .before .before) in
+    let s = c .before .shape-of .ensures in
     let t = k .known .there in
-    rw (k .sound-is) (k .known .opened .shape, (t, (refl, omega (arith, k .room-enough, size-is t))))
+    rw (k .sound-is) (s, (t, (refl, omega (arith, k .room-enough, size-of s t refl))))
 
 same-length : tie.Need-same-length
 same-length c = search needs
 
 returns-2 : tie.Need-returns-2
 unfolding bufferAfter
-returns-2 c = (sym (c .before .before .before .before .before .judged .given .1) ∙ c .before .before .before .before .before .before .before .judge .ensures, rw (taking (c .before .before .before .before .before) .number-zero) (c .before .before .copy-product .ensures))
+returns-2 c =
+    let j = c .before .before .before .before .before .before in
+    (sym (j .judged .given .1) ∙ j .before .before .judge .ensures, rw (taking j .number-zero) (c .before .before .copy-product .ensures))
 
 pub take-spec : {M : Type 1} → statement M
 take-spec =
@@ -50,6 +56,7 @@ take-spec =
     enum-known-judged
     enum-told
     returns
+    shape-of-requires
     copy-product-requires
     same-length
     returns-2)

@@ -7,7 +7,7 @@ use lib.Bits.{bitAnd, bitOr}
 use lib.Pow.{shl-exact}
 use Rattle.rules.specs.Claim.{holds}
 use Rattle.shell.specs.Shell.{decimal}
-use Rattle.shell.proofs.Digits.{word}
+use Rattle.shell.proofs.DigitLaws.{word}
 use Rattle.shell.proofs.decimal.Statement.{statement}
 use Rattle.shell.proofs.decimal.Tie as tie
 

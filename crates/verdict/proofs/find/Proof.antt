@@ -1,44 +1,60 @@
--- `verdict::find` meets its contract: a look that is fine has told of the entry, and 0 says that it is no product. Assumes nothing.
-use mathlib.Core.Path.{_∙_}
-use Rattle.verdict.proofs.Parts.{find-refused, find-missing, find-there, fine-is, fine-shaped}
+-- `verdict::find` meets its contract: the image's own numbers are those of a check, and a last sector 0 says that the entry is no product.
+-- Assumes nothing.
+use mathlib.Core.Path.{sym, _∙_}
+use Rattle.image.proofs.Founds.{found-refused, found-missing, found-there}
+use Rattle.image.proofs.Verdict.{ruled-out, ruled-bounds}
+use Rattle.verdict.proofs.Parts.{chains-refuse, chains-pass}
 use borrow.Author.Needs.{needs}
 use Rattle.verdict.proofs.find.Statement.{statement}
 use Rattle.verdict.proofs.find.Tie as tie
 
-inspect-requires : tie.Need-inspect-requires
-inspect-requires c κs = search needs
+number-requires : tie.Need-number-requires
+number-requires c κs = search needs
+
+returns : tie.Need-returns
+returns c = found-refused _ _ (c .if1 .taken) (ruled-out _ (c .before .number .ensures) (c .if1 .taken))
+
+chains-requires : tie.Need-chains-requires
+chains-requires c κs = ruled-bounds _ (c .before .number .ensures) (c .if1 .left)
 
 enum-known-n : tie.Need-enum-known-n
 enum-known-n c = search needs
 
-enum-known-g : tie.Need-enum-known-g
-enum-known-g c = search needs
-
-returns : tie.Need-returns
-returns c = find-missing _ _ (c .before .before .before .before .inspect .ensures) (c .before .before .g .given .1) (c .if1 .taken)
-
-product-requires : tie.Need-product-requires
-product-requires c κs =
-    let s = c .before .before .before .before .inspect .ensures in
-    let q = c .before .before .g .given .1 in
-    (fine-shaped _ _ s q, (c .if1 .left, fine-is _ _ s q .2))
+enum-known-last : tie.Need-enum-known-last
+enum-known-last c = search needs
 
 returns-2 : tie.Need-returns-2
-returns-2 c = find-refused _ _ (c .before .before .before .inspect .ensures) (c .before .n .given .1)
+returns-2 c =
+    let l = c .before .before in
+    let h = l .before .before in
+    let r = h .before in
+    let v = chains-pass _ _ (r .before .number .ensures) (r .if1 .left) (h .chains .ensures) (l .last .given .1) in
+    found-missing _ _ (v .0) (sym (c .if2 .taken) ∙ v .1)
 
 returns-3 : tie.Need-returns-3
 returns-3 c =
-    let t = c .before in
-    c .product .ensures ∙ find-there _ _ (t .before .before .before .before .inspect .ensures) (t .before .before .g .given .1) (t .if1 .left)
+    let h = c .before .before .before in
+    let r = h .before in
+    let v = chains-refuse _ _ (r .before .number .ensures) (r .if1 .left) (h .chains .ensures) (c .before .n .given .1) in
+    found-refused _ _ (v .0) (v .1)
+
+returns-4 : tie.Need-returns-4
+returns-4 c =
+    let l = c .before .before in
+    let h = l .before .before in
+    let r = h .before in
+    let v = chains-pass _ _ (r .before .number .ensures) (r .if1 .left) (h .chains .ensures) (l .last .given .1) in
+    found-there _ _ (v .0) (c .if2 .left) (v .1) (v .2)
 
 pub find-spec : {M : Type 1} → statement M
 find-spec =
     tie.close
     (tie.spec
-    inspect-requires
-    enum-known-n
-    enum-known-g
+    number-requires
     returns
-    product-requires
+    chains-requires
+    enum-known-n
+    enum-known-last
     returns-2
-    returns-3)
+    returns-3
+    returns-4)

@@ -1,19 +1,15 @@
 -- `writes::store_record` meets its contract: the part comes back with the fields stored, which is the fields stored in the image. Assumes nothing.
-use Rattle.writes.proofs.Stored.{record-room, record-placed}
 use native.Mathlib.Omega.{arith}
-use Rattle.steps.proofs.Calls.{sector-within}
+use Rattle.writes.proofs.Stored.{part-in, part-room, record-placed}
 use borrow.Author.Needs.{needs}
 use Rattle.writes.proofs.store_record.Statement.{statement}
 use Rattle.writes.proofs.store_record.Tie as tie
 
-mul-from : tie.Need-mul-from
-mul-from c = let p = c .before .before .pre in omega (arith, sector-within (p .0) _ (p .1 .0))
-
-add-from : tie.Need-add-from
-add-from c = let p = c .before .before .pre in omega (arith, sector-within (p .0) _ (p .1 .0))
+sector-at-requires : tie.Need-sector-at-requires
+sector-at-requires c κs = search needs
 
 add-to : tie.Need-add-to
-add-to c = let p = c .before .before .before .pre in omega (arith, sector-within (p .0) _ (p .1 .0))
+add-to c = let p = c .before .before .before .pre in omega (arith, part-in (p .0) (p .1 .0) (c .before .sector-at .ensures), p .0 .in-bounds)
 
 sub-store-record : tie.Need-sub-store-record
 sub-store-record c = search needs
@@ -22,26 +18,26 @@ part-store-record-start : tie.Need-part-store-record-start
 part-store-record-start c = search needs
 
 part-store-record-end : tie.Need-part-store-record-end
-part-store-record-end c = let p = c .before .before .before .pre in omega (arith, sector-within (p .0) _ (p .1 .0))
+part-store-record-end c = let p = c .before .before .before .pre in part-in (p .0) (p .1 .0) (c .before .sector-at .ensures)
 
 store-record-requires : tie.Need-store-record-requires
-store-record-requires c κs = let p = c .before .before .before .before .pre in (record-room (p .0) _ (p .1 .0), p .1 .1)
+store-record-requires c κs =
+    let p = c .before .before .before .before .pre in
+    (omega (arith, part-room (p .0) (p .1 .0) (c .before .before .sector-at .ensures)), p .1 .1)
 
 same-length : tie.Need-same-length
 same-length c = search needs
 
 returns : tie.Need-returns
 returns c =
-    let o = c .before .before .before .before .before .before in
-    let p = o .before .pre in
-    record-placed (p .0) (λ i. o .slice-known .given i .fits) _ _ _ (p .1 .0) (c .before .before .store-record .ensures)
+    let p = c .before .before .before .before .before .before .before .pre in
+    record-placed (p .0) (p .1 .0) (c .before .before .before .before .before .sector-at .ensures) (λ i. c .before .before .before .before .before .before .slice-known .given i .fits) _ _ (c .before .before .store-record .ensures)
 
 pub store-record-spec : {M : Type 1} → statement M
 store-record-spec =
     tie.close
     (tie.spec
-    mul-from
-    add-from
+    sector-at-requires
     add-to
     sub-store-record
     part-store-record-start

@@ -1,6 +1,8 @@
 -- `writes::write_field` meets its contract: each number is the first rule that fails, and where none does the field is stored. Assumes nothing.
 use mathlib.Core.Path.{_∙_}
-use Rattle.steps.proofs.Calls.{sees-of, turned-of, turned-answer, taken-answer, entry-in}
+use native.Mathlib.Omega.{arith}
+use Rattle.image.proofs.Founds.{Finds, finds}
+use Rattle.steps.proofs.Calls.{Sees, sees-of, turned-of, turned-answer, taken-answer, entry-in}
 use Rattle.writes.proofs.Numbers.{early-answer, late-answer, write-taken, write-rules}
 use Rattle.writes.proofs.Stored.{field-stored}
 use Rattle.steps.proofs.Acts.{numbers}
@@ -8,15 +10,29 @@ use borrow.Author.Needs.{needs}
 use Rattle.writes.proofs.write_field.Statement.{statement}
 use Rattle.writes.proofs.write_field.Tie as tie
 
+-- what is found, and what is seen of it
+found : (c : tie.After-last) → (let o = c .before .before .before .before .before in Finds (o .args .image .now) (o .args .entry) (c .last .given .0 .0) (c .last .given .0 .1 .0))
+found c = finds _ _ (c .before .before .find .ensures) (c .last .given .1)
+
+seen : (c : tie.After-mark-of) → (let g = c .before .before in let l = g .before .before .before in let o = l .before .before .before .before .before in
+    Sees (o .args .image .now) (o .args .entry) (g .shape-of .result) (l .last .given .0 .0) (l .last .given .0 .1 .0) (c .mark-of .result))
+seen c = let g = c .before .before in sees-of (found (g .before .before .before)) (g .shape-of .ensures) (c .mark-of .ensures)
+
 find-requires : tie.Need-find-requires
 find-requires c κs = search needs
 
-enum-known-g : tie.Need-enum-known-g
-enum-known-g c = search needs
+enum-known-last : tie.Need-enum-known-last
+enum-known-last c = search needs
+
+shape-of-requires : tie.Need-shape-of-requires
+shape-of-requires c κs = found (c .before .before) .in-bounds
+
+mark-of-requires : tie.Need-mark-of-requires
+mark-of-requires c κs = let g = c .before in (g .shape-of .ensures, found (g .before .before .before) .sector)
 
 write-number-requires : tie.Need-write-number-requires
 write-number-requires c κs =
-    let s = (sees-of (c .before .before .before .before .find .ensures) (c .before .before .g .given .1)) in
+    let s = seen (c .before) in
     (s .shape, (s .present, (s .count-is, s .mark-is)))
 
 same-length : tie.Need-same-length
@@ -24,7 +40,7 @@ same-length c = search needs
 
 returns : tie.Need-returns
 returns c =
-    let s = (sees-of (c .before .before .before .before .before .before .find .ensures) (c .before .before .before .before .g .given .1)) in
+    let s = seen (c .before .before .before) in
     early-answer _ _ (s .present) _ (write-rules _ _ _ _) _ (c .before .write-number .ensures) (c .if1 .taken)
 
 field-number-requires : tie.Need-field-number-requires
@@ -35,14 +51,16 @@ same-length-2 c = search needs
 
 returns-2 : tie.Need-returns-2
 returns-2 c =
-    let s = (sees-of (c .before .before .before .before .before .before .before .before .find .ensures) (c .before .before .before .before .before .before .g .given .1)) in
+    let s = seen (c .before .before .before .before .before) in
     late-answer _ _ (s .present) _ (write-rules _ _ _ _) _ _ (c .before .before .before .write-number .ensures) (c .before .before .if1 .left) (c .before .field-number .ensures) (c .if2 .taken)
 
 store-field-requires : tie.Need-store-field-requires
 store-field-requires c κs =
-    let s = (sees-of (c .before .before .before .before .before .before .before .before .before .find .ensures) (c .before .before .before .before .before .before .before .g .given .1)) in
+    let s = seen (c .before .before .before .before .before .before) in
     let t = write-taken _ _ (s .present) _ (write-rules _ _ _ _) _ _ (c .before .before .before .before .write-number .ensures) (c .before .before .before .if1 .left) (c .before .before .field-number .ensures) (c .before .if2 .left) in
-    (s .shape, (entry-in (s .shape) (s .present) .0, entry-in (s .shape) (s .present) .1, numbers _ _ _ _ t .0, numbers _ _ _ _ t .1))
+    let h = entry-in (s .shape) (s .present) in
+    let f = numbers _ _ _ _ t in
+    (s .shape, (h .0, h .1, omega arith, omega arith))
 
 enum-known-n : tie.Need-enum-known-n
 enum-known-n c = search needs
@@ -52,7 +70,7 @@ same-length-3 c = search needs
 
 returns-3 : tie.Need-returns-3
 returns-3 c =
-    let s = (sees-of (c .before .before .before .before .before .before .before .before .before .before .before .before .find .ensures) (c .before .before .before .before .before .before .before .before .before .before .g .given .1)) in
+    let s = seen (c .before .before .before .before .before .before .before .before .before) in
     let t = write-taken _ _ (s .present) _ (write-rules _ _ _ _) _ _ (c .before .before .before .before .before .before .before .write-number .ensures) (c .before .before .before .before .before .before .if1 .left) (c .before .before .before .before .before .field-number .ensures) (c .before .before .before .before .if2 .left) in
     (taken-answer _ _ t, c .before .before .store-field .ensures ∙ field-stored _ _ _ _ t)
 
@@ -67,7 +85,9 @@ write-field-spec =
     tie.close
     (tie.spec
     find-requires
-    enum-known-g
+    enum-known-last
+    shape-of-requires
+    mark-of-requires
     write-number-requires
     same-length
     returns

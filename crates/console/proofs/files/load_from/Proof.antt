@@ -1,4 +1,4 @@
--- `console::load_from` is safe and ends: each turn fills more of the buffer.
+-- `files::load_from` is safe and ends: each turn fills more of the buffer.
 -- Assumes nothing.
 use borrow.Author.Needs.{needs}
 use mathlib.Core.Path.{_≡_}

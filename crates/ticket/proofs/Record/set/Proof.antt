@@ -1,39 +1,34 @@
--- `Record::set` meets its contract: each test is that of its rule, in their order. Assumes nothing.
+-- `Record::set` meets its contract: the number decides. Assumes nothing.
+use native.Mathlib.Omega.{arith}
 use borrow.Author.Needs.{needs}
-use Rattle.ticket.proofs.Steps.{set-low, set-high, set-wide, set-done}
+use Rattle.ticket.proofs.Steps.{set-refused, set-done, set-field}
 use Rattle.ticket.proofs.Record.set.Statement.{statement}
 use Rattle.ticket.proofs.Record.set.Tie as tie
 
+field-number-requires : tie.Need-field-number-requires
+field-number-requires c κs = search needs
+
 returns : tie.Need-returns
-returns c = set-low (c .before .args .self) (c .before .args .field) (c .before .args .value) (c .if1 .taken)
+returns c = set-refused _ _ _ _ (c .before .field-number .ensures) (c .if1 .taken)
 
-returns-2 : tie.Need-returns-2
-returns-2 c =
+sub-i : tie.Need-sub-i
+sub-i c =
     let a = c .before .before .args in
-    set-high (a .self) (a .field) (a .value) (c .before .if1 .left) (c .if2 .taken)
-
-limit-requires : tie.Need-limit-requires
-limit-requires c κs = search needs
-
-returns-3 : tie.Need-returns-3
-returns-3 c =
-    let i = c .before .before .before in
-    let w = rw (c .before .limit .ensures) at (c .if3 .taken) in
-    set-wide (i .before .args .self) (i .before .args .field) (i .before .args .value) (i .if1 .left) (c .before .before .if2 .left) w
+    omega (arith, set-field (a .self) (a .field) (a .value) _ (c .before .field-number .ensures) (c .if1 .left))
 
 mul-next : tie.Need-mul-next
-mul-next c = search needs
+mul-next c =
+    let a = c .before .before .args in
+    omega (arith, set-field (a .self) (a .field) (a .value) _ (c .before .field-number .ensures) (c .if1 .left))
 
 element-write-next : tie.Need-element-write-next
-element-write-next c = search needs
+element-write-next c =
+    let a = c .before .before .args in
+    omega (arith, set-field (a .self) (a .field) (a .value) _ (c .before .field-number .ensures) (c .if1 .left))
 
-returns-4 : tie.Need-returns-4
-returns-4 c =
-    let i = c .before .before .before in
-    let w = rw (c .before .limit .ensures) at (c .if3 .left) in
-    set-done (i .before .args .self) (i .before .args .field) (i .before .args .value) (i .if1 .left) (c .before .before .if2 .left) w
+returns-2 : tie.Need-returns-2
+returns-2 c = set-done _ _ _ _ (c .before .field-number .ensures) (c .if1 .left)
 
 pub set-spec : {M : Type 1} → statement M
 set-spec =
-    tie.close
-    (tie.spec returns returns-2 limit-requires returns-3 mul-next element-write-next returns-4)
+    tie.close (tie.spec field-number-requires returns sub-i mul-next element-write-next returns-2)

@@ -1,34 +1,32 @@
--- `Record::value` meets its contract: each test is that of its rule. Assumes nothing.
-use Prim.Native.Nat.{_<_, _≤_}
+-- `Record::value` meets its contract: its test is the rule's. Assumes nothing.
+use mathlib.Core.Path.{_∙_, sym}
 use native.Mathlib.Omega.{arith}
+use borrow.Author.Tests.{not-true, not-false}
 use borrow.Author.Needs.{needs}
-use Rattle.ticket.proofs.Steps.{value-low, value-high, value-done}
+use Rattle.rules.proofs.ClaimLaws.{holds-means}
+use Rattle.ticket.specs.Kind.{fieldRule}
+use Rattle.ticket.proofs.Steps.{value-refused, value-done}
 use Rattle.ticket.proofs.Record.value.Statement.{statement}
 use Rattle.ticket.proofs.Record.value.Tie as tie
 
-returns : tie.Need-returns
-returns c =
-    let h : c .before .args .field < 1 = omega arith in
-    rw (value-low (c .before .args .field) h)
+is-field-requires : tie.Need-is-field-requires
+is-field-requires c κs = search needs
 
-returns-2 : tie.Need-returns-2
-returns-2 c =
-    let h : 1 ≤ c .before .before .args .field = omega arith in
-    rw (value-high (c .before .before .args .field) h (c .if2 .taken))
+returns : tie.Need-returns
+returns c = value-refused (c .before .before .args .t1) _ (sym (c .before .is-field .ensures) ∙ not-true _ (c .if1 .taken))
 
 sub-at : tie.Need-sub-at
-sub-at c = search needs
+sub-at c = holds-means (fieldRule _ .claim) (sym (c .before .is-field .ensures) ∙ not-false _ (c .if1 .left)) .0
 
-mul-t6 : tie.Need-mul-t6
-mul-t6 c = search needs
+mul-t7 : tie.Need-mul-t7
+mul-t7 c = omega (arith, holds-means (fieldRule (c .before .before .args .field) .claim) (sym (c .before .is-field .ensures) ∙ not-false _ (c .if1 .left)))
 
-element-copy-out-t9 : tie.Need-element-copy-out-t9
-element-copy-out-t9 c = search needs
+element-copy-out-t10 : tie.Need-element-copy-out-t10
+element-copy-out-t10 c = omega (arith, holds-means (fieldRule (c .before .before .args .field) .claim) (sym (c .before .is-field .ensures) ∙ not-false _ (c .if1 .left)))
 
-returns-3 : tie.Need-returns-3
-returns-3 c =
-    let h : 1 ≤ c .before .before .before .args .field = omega arith in
-    rw (value-done (c .before .before .before .args .field) h (c .before .if2 .left))
+returns-2 : tie.Need-returns-2
+returns-2 c = let f = c .before in value-done (f .before .before .args .t1) _ (sym (f .before .is-field .ensures) ∙ not-false _ (f .if1 .left))
 
 pub value-spec : {M : Type 1} → statement M
-value-spec = tie.close (tie.spec returns returns-2 sub-at mul-t6 element-copy-out-t9 returns-3)
+value-spec =
+    tie.close (tie.spec is-field-requires returns sub-at mul-t7 element-copy-out-t10 returns-2)

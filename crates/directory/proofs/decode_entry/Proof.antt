@@ -1,0 +1,20 @@
+-- `directory::decode_entry` meets its contract: the list is read from the five bytes. Assumes nothing.
+use borrow.Author.Needs.{needs}
+use Rattle.directory.proofs.decode_entry.Statement.{statement}
+use Rattle.directory.proofs.decode_entry.Tie as tie
+
+slice-aggregate-read : tie.Need-slice-aggregate-read
+slice-aggregate-read c = search needs
+
+slice-aggregate-read-2 : tie.Need-slice-aggregate-read-2
+slice-aggregate-read-2 c = search needs
+
+read-requires : tie.Need-read-requires
+read-requires c κs = search needs
+
+returns : tie.Need-returns
+returns c = rw (c .before .read .ensures)
+
+pub decode-entry-spec : {M : Type 1} → statement M
+decode-entry-spec =
+    tie.close (tie.spec slice-aggregate-read slice-aggregate-read-2 read-requires returns)

@@ -1,0 +1,37 @@
+-- `checks::stated_of` meets its contract: each value is read at its place. Assumes nothing.
+use borrow.Author.Needs.{needs}
+use Rattle.readticket.proofs.checks.stated_of.Statement.{statement}
+use Rattle.readticket.proofs.checks.stated_of.Tie as tie
+
+of-entry-requires : tie.Need-of-entry-requires
+of-entry-requires c κs = search needs
+
+of-entry-requires-2 : tie.Need-of-entry-requires-2
+of-entry-requires-2 c κs = search needs
+
+of-product-requires : tie.Need-of-product-requires
+of-product-requires c κs = search needs
+
+of-product-requires-2 : tie.Need-of-product-requires-2
+of-product-requires-2 c κs = search needs
+
+of-product-requires-3 : tie.Need-of-product-requires-3
+of-product-requires-3 c κs = search needs
+
+of-product-requires-4 : tie.Need-of-product-requires-4
+of-product-requires-4 c κs = search needs
+
+returns : tie.Need-returns
+returns c = rw (c .before .before .before .before .before .of-entry .ensures, c .before .before .before .before .of-entry2 .ensures, c .before .before .before .of-product .ensures, c .before .before .of-product2 .ensures, c .before .of-product3 .ensures, c .of-product4 .ensures)
+
+pub stated-of-spec : {M : Type 1} → statement M
+stated-of-spec =
+    tie.close
+    (tie.spec
+    of-entry-requires
+    of-entry-requires-2
+    of-product-requires
+    of-product-requires-2
+    of-product-requires-3
+    of-product-requires-4
+    returns)
