@@ -1,10 +1,24 @@
-/* The card library for C. Each call checks the whole image itself, ends on every input, and answers with a number and an entry:
-   0 and 0 for success, else a number of document 01 and the entry concerned (0 where none is named). A refused call alters no byte of
-   what was lent to it, and every other value that it returns is 0. Link with the static library that `rt staticlib capi` writes. */
+/* The card library for C. Each call checks the whole image itself, ends on every input, and answers with a number and an entry: 0 and 0 for
+   success, else a number of document 01 and the entry concerned (0 where none is named).
+
+   A refused call leaves every byte that was lent to it as it was, and every other value of its answer is 0; card_record_set alone gives back the
+   record that it took. The decoders of fixed size cannot refuse and have no number. After `count` elements or sectors zeros follow.
+
+   The border. No proof reaches across it: the caller keeps these, and nothing checks them.
+   - A pointer is valid for its length, for reading and, unless it is to const, for writing; an array with its size in brackets for that size.
+   - A pointer is null only where its length is 0; an array with its size in brackets never is.
+   - What a call may write overlaps nothing else that it is given. What it only reads may: card_touched takes one image twice.
+   - An array of uint64_t is aligned as its type. Bytes stand anywhere.
+
+   The library takes no heap and has no data that can be written, so that it keeps nothing from one call to the next: calls may run in several
+   tasks at once, as long as none writes what another one uses. From outside it needs memcpy and memset, and nothing else.
+
+   Link with the static library that `rt staticlib capi` writes. It is for x86-64: structs are laid out, passed and returned as the System V
+   interface has C do it. This header is C from C89 on, given a stdint.h, and C++. */
 /* Bytes of stack that a call takes at most, its return address included, as tests/stack measures them on the smallest, the largest and
    the worst cards:
-   card_check 688, card_read_shell 880, card_read_directory 688, card_read_table 1184, card_read_entry 704, card_read_chain 1200,
-   card_read_ticket 1024, card_fill 880, card_write_field 768, card_write_record 1056, card_mark 704, card_touched 816, card_record_set 216,
+   card_check 720, card_read_shell 944, card_read_directory 736, card_read_table 1232, card_read_entry 736, card_read_chain 1248,
+   card_read_ticket 1072, card_fill 928, card_write_field 816, card_write_record 752, card_mark 736, card_touched 864, card_record_set 216,
    card_record_value 216, card_encode_shell 200, card_decode_shell 272, card_encode_entry 56, card_decode_entry 8, card_encode_head 8,
    card_decode_head 8, card_encode_tail 8, card_decode_tail 8, card_encode_header 8, card_decode_header 8, card_encode_ticket 312,
    card_decode_ticket 88, card_encode_table 104, card_decode_table 568, card_date_of 48, card_stamp_of 80. */
@@ -13,6 +27,10 @@
 
 #include <stddef.h>
 #include <stdint.h>
+
+#ifdef __cplusplus
+extern "C" {
+#endif
 
 /* The answer of a check, a step, or an encoder that writes into a lent buffer. */
 typedef struct { size_t number, entry; } card_answer;
@@ -42,9 +60,9 @@ typedef struct { size_t number, entry, end; } card_filled;
 typedef struct { size_t number, entry; uint64_t year, month, day; } card_date;
 typedef struct { size_t number, entry; uint64_t stamp; } card_stamp;
 
-/* A record of twenty-two values after a step on it, and one value of it. */
+/* A record of twenty-two values after a step on it (the record as it was, where refused), and one value of it. */
 typedef struct { size_t number, entry; uint64_t values[22]; } card_changed;
-typedef struct { size_t number, entry, value; } card_value;
+typedef struct { size_t number, entry; uint64_t value; } card_value;
 
 /* What encoders of fixed size give: the bytes, zeros where they refuse. */
 typedef struct { size_t number, entry; uint8_t bytes[5]; } card_entry_bytes;
@@ -72,7 +90,7 @@ card_chain card_read_chain(const uint8_t *image, size_t length, size_t entry);
 /* Copies the product into the buffer and reads its ticket: 20, 21, 22, 23, 24. Only the first sectors x B bytes of the buffer change. */
 card_ticket card_read_ticket(const uint8_t *image, size_t length, size_t entry, uint8_t *buffer, size_t size);
 
-/* The same copy and checks; the bytes after the fixed fields are buffer[29] up to buffer[end - 1]. */
+/* The same copy and checks; the bytes after the fixed fields are buffer[29] up to buffer[end - 1]. That is what `rest` is in Rattle. */
 card_filled card_fill(const uint8_t *image, size_t length, size_t entry, uint8_t *buffer, size_t size);
 
 /* Steps: a field write 20, 27, 22, 23, 25, 26; a record write 20, 27, 22, 23, 26; a mark 20, 28, 27. */
@@ -111,5 +129,9 @@ card_table card_decode_table(uint64_t s, const uint8_t *bytes, size_t size);
 /* A stamp's calendar date: 30. A date's stamp: 29. */
 card_date card_date_of(uint64_t stamp);
 card_stamp card_stamp_of(uint64_t year, uint64_t month, uint64_t day);
+
+#ifdef __cplusplus
+}
+#endif
 
 #endif

@@ -196,7 +196,7 @@ static int records(void)
     } else if (IS("value") && WITH(23)) {
         card_value r = card_record_value(n + 2, n[1]);
         head(r.number, r.entry);
-        printf(" %zu", r.value);
+        numbers(&r.value, 1);
     } else if (IS("date") && WITH(1)) {
         card_date r = card_date_of(n[1]);
         head(r.number, r.entry);

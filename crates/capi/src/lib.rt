@@ -24,95 +24,33 @@ use card::Tail;
 use card::TailBytes;
 use card::TicketRead;
 use card::Value;
-use card::Written;
 ghost use mathlib.Core.Path.{_≡_};
 ghost use lib.ListN.{length};
+ghost use Rattle.rules.specs.Answer.{says};
 ghost use Rattle.shell.specs.Encode as shells;
 ghost use Rattle.directory.specs.Records as records;
-ghost use Rattle.table.specs.Table as tables;
-ghost use Rattle.ticket.specs.Header as headers;
+ghost use Rattle.table.specs.Coded as tables;
 ghost use Rattle.ticket.specs.Ticket as tickets;
-ghost use Rattle.image.specs.Rules.{verdict};
+ghost use Rattle.image.specs.Verdict.{verdict};
 ghost use Rattle.reads.specs.Card.{readShell, readDirectory, readTable};
 ghost use Rattle.reads.specs.Entry.{readEntry, readChain};
-ghost use Rattle.reads.specs.Ticket.{readTicket, bufferAfter};
+ghost use Rattle.reads.specs.Ticket.{readTicket, bufferAfter, fillOf};
 ghost use Rattle.steps.specs.Step.{write, writeAll, setMark};
-ghost use Rattle.steps.specs.Steps.{next};
-ghost use Rattle.steps.specs.Touched.{touchedAnswer, touchedFlags};
-ghost use Rattle.steps.specs.Answers as steps;
-ghost use Rattle.rules.specs.Written as written;
-ghost use Rattle.dates.specs.DateAnswer as dated;
-ghost use Rattle.dates.specs.StampAnswer as stamped;
-ghost use Rattle.reads.specs.Ticket as read;
-ghost use Rattle.capi.specs.Answers.{Gives, Told, Stepped, Wrote, Filling, Dating, Stamping};
-
-// A number and an entry, 0 and 0 for success.
-#[repr(C)]
-pub struct CardAnswer {
-    pub number: usize,
-    pub entry: usize,
-}
-
-#[repr(C)]
-pub struct CardFilled {
-    pub number: usize,
-    pub entry: usize,
-    pub end: usize,
-}
-
-#[repr(C)]
-pub struct CardDate {
-    pub number: usize,
-    pub entry: usize,
-    pub year: u64,
-    pub month: u64,
-    pub day: u64,
-}
-
-#[repr(C)]
-pub struct CardStamp {
-    pub number: usize,
-    pub entry: usize,
-    pub stamp: u64,
-}
-
-// What a step answers, as C has it.
-fn of_step(a: Answer) -> CardAnswer
-    ensures { λ r. ⌜ (r .number ≡ steps.numberOf a) × (r .entry ≡ steps.entryOf a) ⌝ }
-{
-    match a {
-        Answer::Taken => CardAnswer {
-            number: 0,
-            entry: 0,
-        },
-        Answer::Refused(number, entry) => CardAnswer { number, entry },
-    }
-}
-
-// What an encoder into a lent buffer answers, as C has it.
-fn of_written(w: Written) -> CardAnswer
-    ensures { λ r. ⌜ (r .number ≡ written.numberOf w) × (r .entry ≡ written.entryOf w) ⌝ }
-{
-    match w {
-        Written::Done => CardAnswer {
-            number: 0,
-            entry: 0,
-        },
-        Written::Refused(number, entry) => CardAnswer { number, entry },
-    }
-}
+ghost use Rattle.steps.specs.Steps.{answer, next};
+ghost use Rattle.steps.specs.Flags.{touchedAnswer, touchedFlags};
+ghost use Rattle.dates.specs.Calendar.{dateOf, stampOf};
 
 // Whether the image is accepted.
 #[no_mangle]
-pub extern "C" fn card_check(image: &[u8]) -> CardAnswer
-    ensures { λ r. ⌜ Gives r (verdict (now (image .entry))) ⌝ }
+pub extern "C" fn card_check(image: &[u8]) -> Answer
+    ensures { λ r. ⌜ r ≡ verdict (now (image .entry)) ⌝ }
 {
     match card::check(image) {
-        Checked::Accepted(_) => CardAnswer {
+        Checked::Accepted(_) => Answer {
             number: 0,
             entry: 0,
         },
-        Checked::Refused(number, entry) => CardAnswer { number, entry },
+        Checked::Refused(number, entry) => Answer { number, entry },
     }
 }
 
@@ -161,22 +99,11 @@ pub extern "C" fn card_read_ticket(image: &[u8], entry: usize, buffer: &mut [u8]
 
 // Copies likewise; the dataset's end in the buffer.
 #[no_mangle]
-pub extern "C" fn card_fill(image: &[u8], entry: usize, buffer: &mut [u8]) -> CardFilled
-    ensures { λ r. ⌜ Filling r (now (image .entry)) entry (length (now (buffer .entry))) ⌝ }
+pub extern "C" fn card_fill(image: &[u8], entry: usize, buffer: &mut [u8]) -> Filled
+    ensures { λ r. ⌜ r ≡ fillOf (now (image .entry)) entry (length (now (buffer .entry))) ⌝ }
     ensures { λ _. ⌜ now (buffer .exit) ≡ bufferAfter (now (image .entry)) entry (now (buffer .entry)) ⌝ }
 {
-    match card::fill(image, entry, buffer) {
-        Filled::End(end) => CardFilled {
-            number: 0,
-            entry: 0,
-            end,
-        },
-        Filled::Refused(number, entry) => CardFilled {
-            number,
-            entry,
-            end: 0,
-        },
-    }
+    card::fill(image, entry, buffer)
 }
 
 #[no_mangle]
@@ -185,40 +112,36 @@ pub extern "C" fn card_write_field(
     entry: usize,
     field: usize,
     value: u64,
-) -> CardAnswer
-    ensures { λ r. ⌜ Stepped r (now (image .entry)) (write entry field value) ⌝ }
+) -> Answer
+    ensures { λ r. ⌜ r ≡ answer (now (image .entry)) (write entry field value) ⌝ }
     ensures { λ _. ⌜ now (image .exit) ≡ next (now (image .entry)) (write entry field value) ⌝ }
 {
-    of_step(card::write_field(image, entry, field, value))
+    card::write_field(image, entry, field, value)
 }
 
 #[no_mangle]
-pub extern "C" fn card_write_record(
-    image: &mut [u8],
-    entry: usize,
-    values: &[u64; 22],
-) -> CardAnswer
-    ensures { λ r. ⌜ Stepped r (now (image .entry)) (writeAll entry (now (values .entry))) ⌝ }
+pub extern "C" fn card_write_record(image: &mut [u8], entry: usize, values: &[u64; 22]) -> Answer
+    ensures { λ r. ⌜ r ≡ answer (now (image .entry)) (writeAll entry (now (values .entry))) ⌝ }
     ensures { λ _. ⌜ now (image .exit) ≡ next (now (image .entry)) (writeAll entry (now (values .entry))) ⌝ }
 {
-    of_step(card::write_record(image, entry, Record { values: *values }))
+    card::write_record(image, entry, values)
 }
 
 #[no_mangle]
-pub extern "C" fn card_mark(image: &mut [u8], entry: usize, mark: usize) -> CardAnswer
-    ensures { λ r. ⌜ Stepped r (now (image .entry)) (setMark entry mark) ⌝ }
+pub extern "C" fn card_mark(image: &mut [u8], entry: usize, mark: usize) -> Answer
+    ensures { λ r. ⌜ r ≡ answer (now (image .entry)) (setMark entry mark) ⌝ }
     ensures { λ _. ⌜ now (image .exit) ≡ next (now (image .entry)) (setMark entry mark) ⌝ }
 {
-    of_step(card::mark(image, entry, mark))
+    card::mark(image, entry, mark)
 }
 
 // Which entries differ between two images.
 #[no_mangle]
-pub extern "C" fn card_touched(before: &[u8], after: &[u8], flags: &mut [u8]) -> CardAnswer
-    ensures { λ r. ⌜ Told r (touchedAnswer (now (before .entry)) (now (after .entry)) (length (now (flags .entry)))) ⌝ }
+pub extern "C" fn card_touched(before: &[u8], after: &[u8], flags: &mut [u8]) -> Answer
+    ensures { λ r. ⌜ r ≡ touchedAnswer (now (before .entry)) (now (after .entry)) (length (now (flags .entry))) ⌝ }
     ensures { λ _. ⌜ now (flags .exit) ≡ touchedFlags (now (before .entry)) (now (after .entry)) (now (flags .entry)) ⌝ }
 {
-    of_step(card::touched(before, after, flags))
+    card::touched(before, after, flags)
 }
 
 // A field of a record of values, set and read.
@@ -238,11 +161,11 @@ pub extern "C" fn card_record_value(values: &[u64; 22], field: usize) -> Value
 
 // Records between values and bytes.
 #[no_mangle]
-pub extern "C" fn card_encode_shell(values: &[u64; 16], out: &mut [u8]) -> CardAnswer
-    ensures { λ r. ⌜ Wrote r (shells.encodeNumber (now (values .entry)) (length (now (out .entry)))) ⌝ }
+pub extern "C" fn card_encode_shell(values: &[u64; 16], out: &mut [u8]) -> Answer
+    ensures { λ r. ⌜ r ≡ says (shells.encodeNumber (now (values .entry)) (length (now (out .entry)))) 0 ⌝ }
     ensures { λ _. ⌜ now (out .exit) ≡ shells.encodeIn (now (values .entry)) (now (out .entry)) ⌝ }
 {
-    of_written(card::encode_shell(Shell { values: *values }, out))
+    card::encode_shell(Shell { values: *values }, out)
 }
 
 #[no_mangle]
@@ -261,7 +184,7 @@ pub extern "C" fn card_encode_entry(values: &[u64; 7]) -> EntryBytes
 
 #[no_mangle]
 pub extern "C" fn card_decode_entry(bytes: &[u8; 5]) -> Entry
-    ensures { λ r. ⌜ r ≡ records.entryOf (now (bytes .entry)) ⌝ }
+    ensures { λ r. ⌜ r ≡ records.entryIn (now (bytes .entry)) ⌝ }
 {
     card::decode_entry(*bytes)
 }
@@ -275,7 +198,7 @@ pub extern "C" fn card_encode_head(values: &[u64; 3]) -> HeadBytes
 
 #[no_mangle]
 pub extern "C" fn card_decode_head(bytes: &[u8; 2]) -> Head
-    ensures { λ r. ⌜ r ≡ records.headOf (now (bytes .entry)) ⌝ }
+    ensures { λ r. ⌜ r ≡ records.headIn (now (bytes .entry)) ⌝ }
 {
     card::decode_head(*bytes)
 }
@@ -289,17 +212,17 @@ pub extern "C" fn card_encode_tail(values: &[u64; 4]) -> TailBytes
 
 #[no_mangle]
 pub extern "C" fn card_decode_tail(bytes: &[u8; 6]) -> Tail
-    ensures { λ r. ⌜ r ≡ records.tailOf (now (bytes .entry)) ⌝ }
+    ensures { λ r. ⌜ r ≡ records.tailIn (now (bytes .entry)) ⌝ }
 {
     card::decode_tail(*bytes)
 }
 
 #[no_mangle]
-pub extern "C" fn card_encode_table(s: u64, elements: &[u64], out: &mut [u8]) -> CardAnswer
-    ensures { λ r. ⌜ Wrote r (tables.encodeNumber s (now (elements .entry)) (length (now (out .entry)))) ⌝ }
+pub extern "C" fn card_encode_table(s: u64, elements: &[u64], out: &mut [u8]) -> Answer
+    ensures { λ r. ⌜ r ≡ says (tables.encodeNumber s (now (elements .entry)) (length (now (out .entry)))) 0 ⌝ }
     ensures { λ _. ⌜ now (out .exit) ≡ tables.encodeIn s (now (elements .entry)) (now (out .entry)) ⌝ }
 {
-    of_written(card::encode_table(s, elements, out))
+    card::encode_table(s, elements, out)
 }
 
 #[no_mangle]
@@ -311,14 +234,14 @@ pub extern "C" fn card_decode_table(s: u64, bytes: &[u8]) -> Elements
 
 #[no_mangle]
 pub extern "C" fn card_encode_header(values: &[u64; 3]) -> HeaderBytes
-    ensures { λ r. ⌜ r ≡ headers.headerBytes (now (values .entry)) ⌝ }
+    ensures { λ r. ⌜ r ≡ tickets.headerBytes (now (values .entry)) ⌝ }
 {
     card::encode_header(*values)
 }
 
 #[no_mangle]
 pub extern "C" fn card_decode_header(bytes: &[u8; 2]) -> Header
-    ensures { λ r. ⌜ r ≡ headers.headerOf (now (bytes .entry)) ⌝ }
+    ensures { λ r. ⌜ r ≡ tickets.headerIn (now (bytes .entry)) ⌝ }
 {
     card::decode_header(*bytes)
 }
@@ -339,41 +262,15 @@ pub extern "C" fn card_decode_ticket(bytes: &[u8; 27]) -> Record
 
 // Dates.
 #[no_mangle]
-pub extern "C" fn card_date_of(stamp: u64) -> CardDate
-    ensures { λ r. ⌜ Dating r stamp ⌝ }
+pub extern "C" fn card_date_of(stamp: u64) -> Dated
+    ensures { λ r. ⌜ r ≡ dateOf stamp ⌝ }
 {
-    match card::date(stamp) {
-        Dated::On(d) => CardDate {
-            number: 0,
-            entry: 0,
-            year: d.year,
-            month: d.month,
-            day: d.day,
-        },
-        Dated::Refused(number, entry) => CardDate {
-            number,
-            entry,
-            year: 0,
-            month: 0,
-            day: 0,
-        },
-    }
+    card::date(stamp)
 }
 
 #[no_mangle]
-pub extern "C" fn card_stamp_of(year: u64, month: u64, day: u64) -> CardStamp
-    ensures { λ r. ⌜ Stamping r year month day ⌝ }
+pub extern "C" fn card_stamp_of(year: u64, month: u64, day: u64) -> Stamped
+    ensures { λ r. ⌜ r ≡ stampOf year month day ⌝ }
 {
-    match card::stamp(year, month, day) {
-        Stamped::At(stamp) => CardStamp {
-            number: 0,
-            entry: 0,
-            stamp,
-        },
-        Stamped::Refused(number, entry) => CardStamp {
-            number,
-            entry,
-            stamp: 0,
-        },
-    }
+    card::stamp(year, month, day)
 }

@@ -25,7 +25,7 @@ pub use readticket::rest;
 
 // Steps on a product, and which entries they touched.
 pub use marks::mark;
-pub use steps::Answer;
+pub use rules::Answer;
 pub use touched::touched;
 pub use writes::write_field;
 pub use writes::write_record;
@@ -43,7 +43,6 @@ pub use directory::decode_tail;
 pub use directory::encode_entry;
 pub use directory::encode_head;
 pub use directory::encode_tail;
-pub use rules::Written;
 pub use shell::Shell;
 pub use shell::decode as decode_shell;
 pub use shell::encode as encode_shell;
@@ -62,7 +61,6 @@ pub use ticket::encode as encode_ticket;
 pub use ticket::encode_header;
 
 // Dates.
-pub use dates::Date;
 pub use dates::Dated;
 pub use dates::Stamped;
 pub use dates::date;

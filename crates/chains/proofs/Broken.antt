@@ -7,8 +7,9 @@ use mathlib.Core.Bool.{Bool, true, false}
 use Prim.Native.Nat.{ℕ, zero, suc, _+_, _-_, _≤_}
 use native.Mathlib.Omega.{arith}
 use lib.ListN.{length}
-use Rattle.chains.specs.Chain.{Sector, Names, In, Distinct, NoChain, Fault, is-zero, is-above, is-passed, Bad, zero-met, above-met, comes-back, Break, breakAt, Breaks, here, onward}
-use Rattle.chains.specs.Chain.{Link, to, bad, pick, link, member, past, Walk, found, broken, after, onLink, walkOn, walk}
+use Rattle.chains.specs.Chain.{Sector, Names, In, Distinct, NoChain}
+use Rattle.chains.specs.Breaks.{Fault, is-zero, is-above, is-passed, Bad, zero-met, above-met, comes-back, Break, breakAt, Breaks, here, onward}
+use Rattle.chains.specs.Walk.{Link, to, bad, pickLink, link, member, past, Walk, found, broken, after, onLink, walkOn, walk}
 use Rattle.chains.specs.Marks.{replaced}
 use Rattle.chains.proofs.Members.{member-in, in-member, not-member, member-not}
 use Rattle.chains.proofs.Laws.{View, v-end, v-to, v-bad, view, view-to, view-bad, broken-none}
@@ -48,7 +49,7 @@ module _ (f : ℕ → ℕ) (S : ℕ) where
       inner (broken d) ih q = ih q
 
       on : Names S i (f i) → (Passed S (i ∷ ps) (f i) → length (i ∷ ps) + n ≡ S - 3 → walkOn f S (i ∷ ps) (f i) n ≡ broken b → Breaks f S (i ∷ ps) (f i) b)
-          → (t : Bool) → member (f i) ps ≡ t → onLink ps i (pick t (bad is-passed) (to (f i))) (λ x. walkOn f S (i ∷ ps) x n) ≡ broken b → Breaks f S ps i b
+          → (t : Bool) → member (f i) ps ≡ t → onLink ps i (pickLink t (bad is-passed) (to (f i))) (λ x. walkOn f S (i ∷ ps) x n) ≡ broken b → Breaks f S ps i b
       on a ih true m q = bad-here (comes-back (member-in (f i) ps m)) q
       on a ih false m q = let h = member-not (f i) ps m in inner (walkOn f S (i ∷ ps) (f i) n) (λ r. onward a h (ih (passed-on p a h) (omega arith) r)) q
 

@@ -7,7 +7,8 @@ use Prim.Native.Nat.{ℕ, zero, suc, _+_, _-_, _*_, _≤_}
 use native.Mathlib.Omega.{arith}
 use lib.Dec.{eqb, leb}
 use lib.ListN.{length, getD, set, replicate}
-use Rattle.chains.specs.Chain.{Sector, Leads, last, next, lastOf, Link, end, to, bad, link, member, walkOn, Walk, found, broken, walk}
+use Rattle.chains.specs.Chain.{Sector, Leads, last, then, lastOf}
+use Rattle.chains.specs.Walk.{Link, end, to, bad, link, member, walkOn, Walk, found, broken, walk}
 use Rattle.chains.specs.Packed.{lastLeft, lastTold, leftTold}
 use Rattle.chains.specs.Products.{when}
 use Rattle.chains.specs.Owners.{stop, again, byOwner, byLink, follow}
@@ -29,8 +30,8 @@ module _ (p : ℕ → Bool) (f : ℕ → ℕ) (S : ℕ) (top : S ≤ 255) (secto
   unfolding ofWalk
   walk-chain s (last a) zero l = absurd (omega arith)
   walk-chain {i} s (last a) (suc n) l = rw (view-end s (view S i (f i)) a)
-  walk-chain s (next a q) zero l = absurd (omega arith)
-  walk-chain {i} s (next a q) (suc n) l = rw (view-to s (view S i (f i)) a, walk-chain (a .sector) q n (omega arith))
+  walk-chain s (then a q) zero l = absurd (omega arith)
+  walk-chain {i} s (then a q) (suc n) l = rw (view-to s (view S i (f i)) a, walk-chain (a .sector) q n (omega arith))
 
   -- what it consults and what it leaves are no more than what was allowed
   walk-takes : {k : ℕ} → Sector S k → (n : ℕ) → ofWalk f S k n + leftTold (lastLeft n (walk f S k n)) ≤ n

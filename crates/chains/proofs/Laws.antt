@@ -10,9 +10,9 @@ use native.Mathlib.Omega.{arith}
 use lib.ListN.{length}
 use lib.Dec.{eqb, leb}
 use borrow.Author.Tests.{eqb-true, eqb-false, leb-true, leb-false}
-use Rattle.chains.specs.Chain.{Sector, Ends, fresh, used, blocked, Names, Leads, last, next, In, Distinct, Chain, NoChain, Common, lastOf}
-use Rattle.chains.specs.Chain.{Fault, Bad, zero-met, above-met, comes-back, is-zero, is-above, is-passed, Break}
-use Rattle.chains.specs.Chain.{Link, end, to, bad, pick, link, member, past, Walk, found, broken, after, onLink, walkOn, walk}
+use Rattle.chains.specs.Chain.{Sector, Ends, fresh, used, blocked, Names, Leads, last, then, In, Distinct, Chain, NoChain, Common, lastOf}
+use Rattle.chains.specs.Breaks.{Fault, Bad, zero-met, above-met, comes-back, is-zero, is-above, is-passed, Break}
+use Rattle.chains.specs.Walk.{Link, end, to, bad, pickLink, link, member, past, Walk, found, broken, after, onLink, walkOn, walk}
 use Rattle.chains.proofs.Members.{not-member, in-or-not}
 use Rattle.chains.proofs.Distinct.{few}
 
@@ -29,7 +29,7 @@ unfolding link
 view S i x = go (eqb x i) refl (eqb x (S - 1)) refl (eqb x (S - 2)) refl (leb 1 x) refl (leb x (S - 3)) refl
   where
     go : (b₁ : Bool) → eqb x i ≡ b₁ → (b₂ : Bool) → eqb x (S - 1) ≡ b₂ → (b₃ : Bool) → eqb x (S - 2) ≡ b₃ → (b₄ : Bool) → leb 1 x ≡ b₄ → (b₅ : Bool) → leb x (S - 3) ≡ b₅
-        → View S i x (pick b₁ (end 0) (pick b₂ (end 1) (pick b₃ (end 2) (pick b₄ (pick b₅ (to x) (bad is-above)) (bad is-zero)))))
+        → View S i x (pickLink b₁ (end 0) (pickLink b₂ (end 1) (pickLink b₃ (end 2) (pickLink b₄ (pickLink b₅ (to x) (bad is-above)) (bad is-zero)))))
     go true e₁ b₂ e₂ b₃ e₃ b₄ e₄ b₅ e₅ = v-end (fresh (eqb-true x i e₁))
     go false e₁ true e₂ b₃ e₃ b₄ e₄ b₅ e₅ = v-end (used (eqb-true x (S - 1) e₂))
     go false e₁ false e₂ true e₃ b₄ e₄ b₅ e₅ = v-end (blocked (eqb-true x (S - 2) e₃))
@@ -101,34 +101,34 @@ module _ {S i x : ℕ} (s : Sector S i) where
 module _ (f : ℕ → ℕ) (S : ℕ) where
   pub leads-unique : {i m n : ℕ} {ss ts : List ℕ} → Sector S i → Leads f S i ss m → Leads f S i ts n → (ss ≡ ts) × (m ≡ n)
   leads-unique s (last a) (last b) = (refl, one-mark s a b)
-  leads-unique s (last a) (next b q) = absurd (ends-or-names s a b)
-  leads-unique s (next a p) (last b) = absurd (ends-or-names s b a)
-  leads-unique {i} s (next a p) (next b q) =
+  leads-unique s (last a) (then b q) = absurd (ends-or-names s a b)
+  leads-unique s (then a p) (last b) = absurd (ends-or-names s b a)
+  leads-unique {i} s (then a p) (then b q) =
       let ih = leads-unique (a .sector) p q in
       (ap {B = List ℕ} (λ l. i ∷ l) (ih .0), ih .1)
 
   pub leads-sectors : {i m : ℕ} {ss : List ℕ} → Sector S i → Leads f S i ss m → (x : ℕ) → In x ss → Sector S x
   leads-sectors s (last a) x (inl p) = subst (λ (k : ℕ). Sector S k) (sym p) s
-  leads-sectors s (next a q) x (inl p) = subst (λ (k : ℕ). Sector S k) (sym p) s
-  leads-sectors s (next a q) x (inr p) = leads-sectors (a .sector) q x p
+  leads-sectors s (then a q) x (inl p) = subst (λ (k : ℕ). Sector S k) (sym p) s
+  leads-sectors s (then a q) x (inr p) = leads-sectors (a .sector) q x p
 
   -- what stands before a chain's sectors does not change the last
   pub last-cons : {i m : ℕ} {ss : List ℕ} → Leads f S i ss m → (k : ℕ) → lastOf (k ∷ ss) ≡ lastOf ss
   last-cons (last a) k = refl
-  last-cons (next a p) k = refl
+  last-cons (then a p) k = refl
 
   pub first-in : {i m : ℕ} {ss : List ℕ} → Leads f S i ss m → In i ss
   first-in (last a) = inl refl
-  first-in (next a p) = inl refl
+  first-in (then a p) = inl refl
 
   pub last-in : {i m : ℕ} {ss : List ℕ} → Leads f S i ss m → In (lastOf ss) ss
   last-in (last a) = inl refl
-  last-in {i} (next {ss = ss} a p) = inr (subst (λ (k : ℕ). In k ss) (sym (last-cons p i)) (last-in p))
+  last-in {i} (then {ss = ss} a p) = inr (subst (λ (k : ℕ). In k ss) (sym (last-cons p i)) (last-in p))
 
   -- the last sector's element ends the chain, with its mark
   pub last-ends : {i m : ℕ} {ss : List ℕ} → Leads f S i ss m → Ends S (lastOf ss) (f (lastOf ss)) m
   last-ends (last a) = a
-  last-ends {i} (next a p) = rw (last-cons p i) (last-ends p)
+  last-ends {i} (then a p) = rw (last-cons p i) (last-ends p)
 
   -- from any sector of the chain the elements lead to the same end
   pub record Rest (x m : ℕ) (ss : List ℕ) : Type 0 where
@@ -140,16 +140,16 @@ module _ (f : ℕ → ℕ) (S : ℕ) where
   pub rest : {i m : ℕ} {ss : List ℕ} → Leads f S i ss m → (x : ℕ) → In x ss → Rest x m ss
   rest {i} {m} (last a) x (inl p) =
       record { sectors = i ∷ []; leads = subst (λ (k : ℕ). Leads f S k (i ∷ []) m) (sym p) (last a); short = omega arith; same-last = refl }
-  rest {i} {m} (next {ss = ss} a q) x (inl p) =
-      record { sectors = i ∷ ss; leads = subst (λ (k : ℕ). Leads f S k (i ∷ ss) m) (sym p) (next a q); short = omega arith; same-last = refl }
-  rest {i} (next a q) x (inr p) =
+  rest {i} {m} (then {ss = ss} a q) x (inl p) =
+      record { sectors = i ∷ ss; leads = subst (λ (k : ℕ). Leads f S k (i ∷ ss) m) (sym p) (then a q); short = omega arith; same-last = refl }
+  rest {i} (then a q) x (inr p) =
       let r = rest q x p in
       record { sectors = r .sectors; leads = r .leads; short = omega (arith, r .short); same-last = r .same-last ∙ sym (last-cons q i) }
 
   pub leads-distinct : {i m : ℕ} {ss : List ℕ} → Sector S i → Leads f S i ss m → Distinct ss
   leads-distinct s (last a) = ((λ h. h), tt)
-  leads-distinct {i} s (next a p) =
-      ((λ h. let r = rest p i h in let e = leads-unique s (r .leads) (next a p) .0 in omega (arith, r .short, ap length e)), leads-distinct (a .sector) p)
+  leads-distinct {i} s (then a p) =
+      ((λ h. let r = rest p i h in let e = leads-unique s (r .leads) (then a p) .0 in omega (arith, r .short, ap length e)), leads-distinct (a .sector) p)
 
   pub leads-short : {i m : ℕ} {ss : List ℕ} → Sector S i → Leads f S i ss m → length ss ≤ S - 3
   leads-short {ss = ss} s p =
@@ -159,15 +159,15 @@ module _ (f : ℕ → ℕ) (S : ℕ) where
 
   -- what a chain has not passed before sector i, it does not pass after it, nor sector i again
   pub no-return : (ps : List ℕ) {i m : ℕ} {ss : List ℕ} → Sector S i → Names S i (f i) → Leads f S (f i) ss m → (Common (i ∷ ss) ps → ⊥) → Common ss (i ∷ ps) → ⊥
-  no-return ps s a p h c = ⊎-elim (λ e. leads-distinct s (next a p) .0 (rw e at (c .1))) (λ q. h (c .0, inr (c .1), q)) (c .2)
+  no-return ps s a p h c = ⊎-elim (λ e. leads-distinct s (then a p) .0 (rw e at (c .1))) (λ q. h (c .0, inr (c .1), q)) (c .2)
 
   -- with enough sectors allowed, the walk finds where the elements lead, through sectors that were not passed
   pub walk-on-finds : (ps : List ℕ) {i m : ℕ} {ss : List ℕ} → Sector S i → Leads f S i ss m → (Common ss ps → ⊥) → (n : ℕ) → length ss ≤ n → walkOn f S ps i n ≡ found ss m
   unfolding walkOn
   walk-on-finds ps s (last a) h zero l = absurd (omega arith)
   walk-on-finds ps {i} s (last a) h (suc n) l = rw (view-end s (view S i (f i)) a)
-  walk-on-finds ps s (next a p) h zero l = absurd (omega arith)
-  walk-on-finds ps {i} s (next {ss = ss} a p) h (suc n) l =
+  walk-on-finds ps s (then a p) h zero l = absurd (omega arith)
+  walk-on-finds ps {i} s (then {ss = ss} a p) h (suc n) l =
       rw (
         view-to s (view S i (f i)) a,
         not-member (f i) ps (λ q. h (f i, inr (first-in p), q)),
@@ -188,10 +188,10 @@ module _ (f : ℕ → ℕ) (S : ℕ) where
           let e₁ : ss ≡ i ∷ us = cc in
           let e₂ : m ≡ k = cc in
           let r = ih us k refl in
-          rw (e₁, e₂) (next a (r .0), omega (arith, r .1))
+          rw (e₁, e₂) (then a (r .0), omega (arith, r .1))
       inner a (broken b) ih q = absurd (let z : _≡_ {A = ℕ} 0 1 = cc in omega arith)
 
-      on : Names S i (f i) → ((us : List ℕ) (k : ℕ) → walkOn f S (i ∷ ps) (f i) n ≡ found us k → Leads f S (f i) us k × (length us ≤ n)) → (b : Bool) → onLink ps i (pick b (bad is-passed) (to (f i))) (λ x. walkOn f S (i ∷ ps) x n) ≡ found ss m → Leads f S i ss m × (length ss ≤ suc n)
+      on : Names S i (f i) → ((us : List ℕ) (k : ℕ) → walkOn f S (i ∷ ps) (f i) n ≡ found us k → Leads f S (f i) us k × (length us ≤ n)) → (b : Bool) → onLink ps i (pickLink b (bad is-passed) (to (f i))) (λ x. walkOn f S (i ∷ ps) x n) ≡ found ss m → Leads f S i ss m × (length ss ≤ suc n)
       on a ih true q = absurd (let z : _≡_ {A = ℕ} 0 1 = cc in omega arith)
       on a ih false q = inner a (walkOn f S (i ∷ ps) (f i) n) ih q
 
@@ -255,19 +255,19 @@ module _ (f g : ℕ → ℕ) (S l : ℕ) (same : (x : ℕ) → Sector S x → x 
   -- a chain that does not pass l is as it was
   leads-apart : {i m : ℕ} {ss : List ℕ} → Sector S i → (In l ss → ⊥) → Leads f S i ss m → Leads g S i ss m
   leads-apart {i} {m} s h (last a) = last {i = i} {m = m} (rw (same i s (λ e. h (inl (sym e)))) a)
-  leads-apart {i} {m} s h (next {ss = ss} a p) =
+  leads-apart {i} {m} s h (then {ss = ss} a p) =
       let e = same i s (λ e. h (inl (sym e))) in
-      next {i = i} {m = m} {ss = ss} (rw e a) (rw e (leads-apart (a .sector) (λ q. h (inr q)) p))
+      then {i = i} {m = m} {ss = ss} (rw e a) (rw e (leads-apart (a .sector) (λ q. h (inr q)) p))
 
   pub chain-apart : {i m : ℕ} {ss : List ℕ} → Sector S i → (In l ss → ⊥) → Chain f S i ss m → Chain g S i ss m
   chain-apart s h c = record { leads = leads-apart s h (c .leads); once = c .once }
 
   leads-marked : {i m k : ℕ} {ss : List ℕ} → Sector S i → Distinct ss → lastOf ss ≡ l → Ends S l (g l) k → Leads f S i ss m → Leads g S i ss k
   leads-marked {i} {k = k} s d e b (last a) = last {i = i} {m = k} (rw e b)
-  leads-marked {i} {k = k} s d e b (next {ss = ss} a p) =
+  leads-marked {i} {k = k} s d e b (then {ss = ss} a p) =
       let e₂ = sym (last-cons f S p i) ∙ e in
       let q = same i s (λ w. d .0 (rw (w, ← e₂) (last-in f S p))) in
-      next {i = i} {m = k} {ss = ss} (rw q a) (rw q (leads-marked (a .sector) (d .1) e₂ b p))
+      then {i = i} {m = k} {ss = ss} (rw q a) (rw q (leads-marked (a .sector) (d .1) e₂ b p))
 
   -- a chain that ends in l has the same sectors, and the mark that the new element gives
   pub chain-marked : {i m k : ℕ} {ss : List ℕ} → Sector S i → lastOf ss ≡ l → Ends S l (g l) k → Chain f S i ss m → Chain g S i ss k
@@ -276,8 +276,8 @@ module _ (f g : ℕ → ℕ) (S l : ℕ) (same : (x : ℕ) → Sector S x → x 
 -- an element that ends a chain stands at its last sector alone
 ends-last : (f : ℕ → ℕ) (S l : ℕ) {i m k : ℕ} {ss : List ℕ} → Sector S i → Ends S l (f l) k → Leads f S i ss m → In l ss → lastOf ss ≡ l
 ends-last f S l s b (last a) (inl p) = sym p
-ends-last f S l {k = k} s b (next a q) (inl p) = absurd (ends-or-names s (subst (λ (x : ℕ). Ends S x (f x) k) p b) a)
-ends-last f S l {i} s b (next a q) (inr p) = last-cons f S q i ∙ ends-last f S l (a .sector) b q p
+ends-last f S l {k = k} s b (then a q) (inl p) = absurd (ends-or-names s (subst (λ (x : ℕ). Ends S x (f x) k) p b) a)
+ends-last f S l {i} s b (then a q) (inr p) = last-cons f S q i ∙ ends-last f S l (a .sector) b q p
 
 -- where l ends a chain before and after, every chain keeps its sectors: it passes l last, or not at all
 pub chain-kept : (f g : ℕ → ℕ) (S l : ℕ) → ((x : ℕ) → Sector S x → x ≢ l → g x ≡ f x) → {i m k n : ℕ} {ss : List ℕ}

@@ -1,12 +1,15 @@
 -- What the code's two tests tell of the element x of sector i: whether a walk stops there, and whether it stops broken. Assumes nothing.
 use mathlib.Core.Path.{_≡_, refl}
+use mathlib.Core.Logic.{_≢_}
 use mathlib.Core.Bool.{Bool, true, false, _&&_, _||_, not, true≢false, false≢true}
 use Prim.Native.Nat.{ℕ, _-_}
 use native.Mathlib.Omega.{arith}
 use native.Mathlib.Decide.{ℕ-discrete}
 use lib.Dec.{eqb, ltb}
-use borrow.Author.Tests.{eqb-true, eqb-false, ltb-true, ltb-false}
-use Rattle.chains.specs.Chain.{Sector, Names, fresh, used, blocked, Fault, is-zero, is-above, zero-met, above-met, end, to, bad, link}
+use borrow.Author.Tests.{eq-eqb, ne-eqb, eqb-true, eqb-false, ltb-true, ltb-false}
+use Rattle.chains.specs.Chain.{Sector, Names, fresh, used, blocked}
+use Rattle.chains.specs.Breaks.{Fault, is-zero, is-above, zero-met, above-met}
+use Rattle.chains.specs.Walk.{end, to, bad, link}
 use Rattle.chains.proofs.Laws.{view, view-end, view-to, view-bad}
 
 abbrev pub stops : ℕ → ℕ → ℕ → Bool
@@ -14,6 +17,13 @@ stops S i x = (eqb x i || eqb x 0) || ltb (S - 3) x
 
 abbrev pub fails : ℕ → ℕ → ℕ → Bool
 fails S i x = not (eqb x i) && (eqb x 0 || ltb (S - 1) x)
+
+-- the element is the sector's own number, or another
+pub own : (S i x : ℕ) → x ≡ i → (stops S i x ≡ true) × (fails S i x ≡ false)
+own S i x e = rw (eq-eqb x i e) (refl, refl)
+
+pub other : (S i x : ℕ) → x ≢ i → (stops S i x ≡ (eqb x 0 || ltb (S - 3) x)) × (fails S i x ≡ (eqb x 0 || ltb (S - 1) x))
+other S i x d = rw (ne-eqb x i d) (refl, refl)
 
 pub names : (S i x : ℕ) → stops S i x ≡ false → Names S i x
 names S i x = go (eqb x i) refl (eqb x 0) refl (ltb (S - 3) x) refl

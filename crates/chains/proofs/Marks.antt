@@ -7,8 +7,9 @@ use Prim.Native.Nat.{ℕ}
 use lib.ListN.{replicate}
 use borrow.Author.Tests.{eq-eqb, ne-eqb}
 use Rattle.bits.specs.Bits.{digit, bit, number, field}
-use Rattle.chains.specs.Chain.{Sector, Ends, Common, Chain, NoChain, lastOf, found, walk, walkOn, member, link}
-use Rattle.chains.specs.Packed.{packed}
+use Rattle.chains.specs.Chain.{Sector, Ends, Common, Chain, NoChain, lastOf}
+use Rattle.chains.specs.Walk.{found, walk, walkOn, member, link}
+use Rattle.chains.specs.Packed.{elementIn}
 use Rattle.chains.specs.Products.{InNoChain}
 use Rattle.chains.specs.Marks.{replaced}
 use Rattle.chains.proofs.Laws.{chain-apart, chain-marked, none-stays, last-in, last-ends}
@@ -48,7 +49,7 @@ carried P f S l x free {j} {m} {ss} v s c = chain-apart f (replaced f l x) S l (
 -- ---- the incident: without "shares none", blocking the chain of 1 blocks that of 2 (document 01's table 33 F0, S 16)
 
 pub shared : ℕ → ℕ
-shared = packed (0x33 ∷ 0xF0 ∷ replicate 5 0) 0 4
+shared = elementIn (0x33 ∷ 0xF0 ∷ replicate 5 0) 0 4
 
 unblocked : (walk shared 16 1 13 ≡ found (1 ∷ 3 ∷ []) 1) × (walk shared 16 2 13 ≡ found (2 ∷ 3 ∷ []) 1)
 unfolding shared walkOn member link field number bit digit

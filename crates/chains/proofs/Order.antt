@@ -7,7 +7,7 @@ use Prim.Native.Nat.{ℕ, zero, suc, _+_, _<_}
 use native.Mathlib.Numerals.{add-one}
 use native.Mathlib.Omega.{arith}
 use lib.ListN.{length, getD}
-use Rattle.chains.specs.Chain.{Sector, Leads, last, next, In, Chain}
+use Rattle.chains.specs.Chain.{Sector, Leads, last, then, In, Chain}
 use Rattle.chains.proofs.Laws.{leads-sectors}
 
 pub in-at : (xs : List ℕ) (k : ℕ) → k < length xs → In (getD xs k 0) xs
@@ -18,12 +18,12 @@ in-at (x ∷ xs) (suc k) h = inr (in-at xs k (omega arith))
 module _ (f : ℕ → ℕ) (S : ℕ) where
   leads-first : {i m : ℕ} {ss : List ℕ} → Leads f S i ss m → getD ss 0 0 ≡ i
   leads-first (last a) = refl
-  leads-first (next a p) = refl
+  leads-first (then a p) = refl
 
   leads-next : {i m : ℕ} {ss : List ℕ} → Leads f S i ss m → (k : ℕ) → suc k < length ss → getD ss (suc k) 0 ≡ f (getD ss k 0)
   leads-next (last a) k h = absurd (omega arith)
-  leads-next (next a p) zero h = leads-first p
-  leads-next (next a p) (suc k) h = leads-next p k (omega arith)
+  leads-next (then a p) zero h = leads-first p
+  leads-next (then a p) (suc k) h = leads-next p k (omega arith)
 
   module _ {i m : ℕ} {ss : List ℕ} (c : Chain f S i ss m) where
     pub chain-first : getD ss 0 0 ≡ i

@@ -12,7 +12,9 @@ use native.Mathlib.Decide.{ℕ-discrete}
 use lib.ListN.{length, getD, set, replicate, length-set}
 use lib.Seq.{getD-set-same, getD-set-other}
 use borrow.Author.Tests.{eq-eqb, ne-eqb}
-use Rattle.chains.specs.Chain.{Sector, Names, Leads, last, next, In, Common, Distinct, Chain, NoChain, Fault, Bad, Link, end, to, bad, link}
+use Rattle.chains.specs.Chain.{Sector, Names, Leads, last, then, In, Common, Distinct, Chain, NoChain}
+use Rattle.chains.specs.Breaks.{Fault, Bad}
+use Rattle.chains.specs.Walk.{Link, end, to, bad, link}
 use Rattle.chains.specs.Products.{brokenAt}
 use Rattle.chains.specs.Owners.{Followed, stop, again, byOwner, byLink, follow}
 use Rattle.chains.proofs.Laws.{View, v-end, v-to, v-bad, view, ends-or-names, ends-or-bad, names-or-bad, no-return, leads-distinct, first-in}
@@ -32,15 +34,15 @@ data Reach (f : ℕ → ℕ) (S k : ℕ) : List ℕ → ℕ → Type 0 where
 module _ (f : ℕ → ℕ) (S : ℕ) where
   -- what names a sector from which the elements lead to an end leads to one too, and the other way round
   onward : {i : ℕ} → Names S i (f i) → Sound f S (f i) → Sound f S i
-  onward {i} a z = (i ∷ z .0, z .1, next a (z .2))
+  onward {i} a z = (i ∷ z .0, z .1, then a (z .2))
 
   back : {i m : ℕ} {ss : List ℕ} → Sector S i → Names S i (f i) → Leads f S i ss m → Sound f S (f i)
   back s a (last b) = absurd (ends-or-names s b a)
-  back {m = m} s a (next {ss = ss} b p) = (ss, m, p)
+  back {m = m} s a (then {ss = ss} b p) = (ss, m, p)
 
   bad-none : {i m : ℕ} {w : Fault} {ss : List ℕ} → Sector S i → Bad S [] (f i) w → Leads f S i ss m → ⊥
   bad-none s b (last a) = ends-or-bad s a b
-  bad-none s b (next a p) = names-or-bad s a b
+  bad-none s b (then a p) = names-or-bad s a b
 
   module _ {k : ℕ} (s : Sector S k) where
     reach-sector : {ps : List ℕ} {i : ℕ} → Reach f S k ps i → Sector S i
@@ -57,7 +59,7 @@ module _ (f : ℕ → ℕ) (S : ℕ) where
     reach-apart start p c = c .2
     reach-apart {ss = ss} {m = m} (step {ps = ps} {i = i} r a e) p c =
         let q : Leads f S (f i) ss m = rw (← e) p in
-        no-return f S ps (reach-sector r) a q (λ d. reach-apart r (next a q) d) c
+        no-return f S ps (reach-sector r) a q (λ d. reach-apart r (then a q) d) c
 
     -- where they do from sector i, they do from every sector on the way
     reach-all : {ps : List ℕ} {i : ℕ} → Reach f S k ps i → Sound f S i → (x : ℕ) → In x (i ∷ ps) → Sound f S x

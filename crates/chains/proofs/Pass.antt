@@ -10,9 +10,10 @@ use native.Mathlib.Decide.{ℕ-discrete}
 use native.Mathlib.Numerals.{add-one, sub-one}
 use borrow.Author.Count.{below-more}
 use lib.ListN.{length, getD, set, replicate, length-append, length-set}
-use Rattle.chains.specs.Chain.{Sector, Leads, lastOf, Walk, found, broken, walk}
+use Rattle.chains.specs.Chain.{Sector, Leads, lastOf, Shares}
+use Rattle.chains.specs.Walk.{Walk, found, broken, walk}
 use Rattle.chains.specs.Packed.{lastLeft, lastTold, leftTold, countTold}
-use Rattle.chains.specs.Products.{Shares, sectorsOf, chainAt, isBroken, brokenAt, sharesAt, lastIn, lastAt, countAt, ifProduct, together}
+use Rattle.chains.specs.Products.{sectorsOf, chainAt, isBroken, brokenAt, sharesAt, lastIn, lastAt, countAt, ifProduct, allSectors}
 use Rattle.chains.proofs.Laws.{walk-finds, walk-leads, walk-short, leads-short, leads-sectors, last-in}
 use Rattle.chains.proofs.Told.{last-told, count-told, left-told}
 use Rattle.chains.proofs.ProductLaws.{Tested, so-shares, shares-meets, meets-shares, no-product, last-small}
@@ -22,7 +23,7 @@ use Rattle.chains.proofs.Together.{together-few}
 -- the products below k have taken all but n of the S - 3 elements
 pub record Allowed (p : ℕ → Bool) (f : ℕ → ℕ) (S k n : ℕ) : Type 0 where
   pub low : 1 ≤ k
-  counted : length (together p f S (k - 1)) + n ≡ S - 3
+  counted : length (allSectors p f S (k - 1)) + n ≡ S - 3
 
 -- what the number r, given with n elements allowed, tells of product k: its chain ends, where, after how many sectors; and how many are then left
 pub record Passes (p : ℕ → Bool) (f : ℕ → ℕ) (S k n r : ℕ) : Type 0 where
@@ -36,11 +37,11 @@ pub record Passes (p : ℕ → Bool) (f : ℕ → ℕ) (S k n r : ℕ) : Type 0 
 
 module _ (p : ℕ → Bool) (f : ℕ → ℕ) (S : ℕ) where
   pub allowed-all : Allowed p f S 1 (S - 3)
-  unfolding together
+  unfolding allSectors
   allowed-all = record { low = omega arith; counted = omega arith }
 
-  together-more : (k : ℕ) → 1 ≤ k → together p f S k ≡ together p f S (k - 1) ++ ifProduct (p k) (sectorsOf (chainAt f S k))
-  unfolding together
+  together-more : (k : ℕ) → 1 ≤ k → allSectors p f S k ≡ allSectors p f S (k - 1) ++ ifProduct (p k) (sectorsOf (chainAt f S k))
+  unfolding allSectors
   together-more zero l = absurd (omega arith)
   together-more (suc j) l = rw sub-one
 

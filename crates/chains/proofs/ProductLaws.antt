@@ -9,8 +9,9 @@ use Prim.Native.Nat.{ℕ, zero, suc, _-_, _≤_, _<_}
 use native.Mathlib.Omega.{arith}
 use native.Mathlib.Decide.{decLt, ℕ-discrete}
 use lib.ListN.{length}
-use Rattle.chains.specs.Chain.{Sector, In, Common, Chain, lastOf, Walk, found, broken, walk, member}
-use Rattle.chains.specs.Products.{Chained, Disjoint, Broken, Shares, chainAt, sectorsOf, markOf, isBroken, brokenAt, meet, some, sharesAt, when, lastIn, lastAt, countAt}
+use Rattle.chains.specs.Chain.{Sector, In, Common, Chain, lastOf, Broken, Shares}
+use Rattle.chains.specs.Walk.{Walk, found, broken, walk, member}
+use Rattle.chains.specs.Products.{Chained, Disjoint, chainAt, sectorsOf, markOf, isBroken, brokenAt, meet, some, sharesAt, when, lastIn, lastAt, countAt}
 use Rattle.chains.proofs.Members.{or-true, true-or, member-in, in-member}
 use Rattle.chains.proofs.Laws.{found-chain, broken-none, common-last, chain-sectors, last-in, last-ends}
 use Rattle.chains.proofs.Told.{mark-said}

@@ -7,8 +7,9 @@ use mathlib.Core.List.{List, [], _∷_, _++_}
 use Prim.Native.Nat.{ℕ, zero, suc, _-_, _≤_}
 use native.Mathlib.Omega.{arith}
 use lib.ListN.{length}
-use Rattle.chains.specs.Chain.{In, Common, Distinct, Chain, Walk, found, broken, walk}
-use Rattle.chains.specs.Products.{Shares, sectorsOf, chainAt, ifProduct, together}
+use Rattle.chains.specs.Chain.{In, Common, Distinct, Chain, Shares}
+use Rattle.chains.specs.Walk.{Walk, found, broken, walk}
+use Rattle.chains.specs.Products.{sectorsOf, chainAt, ifProduct, allSectors}
 use Rattle.chains.proofs.Laws.{found-chain, chain-sectors}
 use Rattle.chains.proofs.Distinct.{few}
 use Rattle.chains.proofs.ProductLaws.{Tested}
@@ -40,12 +41,12 @@ module _ {P : ℕ → Type 0} {p : ℕ → Bool} {S : ℕ} (t : Tested P p S) (f
       go true e (broken d) q h = absurd h
       go false e w q h = absurd h
 
-  passed : (n x : ℕ) → In x (together p f S n) → (j : ℕ) × (j ≤ n) × Passes j x
-  unfolding together
+  passed : (n x : ℕ) → In x (allSectors p f S n) → (j : ℕ) × (j ≤ n) × Passes j x
+  unfolding allSectors
   passed zero x h = absurd h
   passed (suc n) x h =
       ⊎-elim (λ a. let r = passed n x a in (r .0, omega (arith, r .1), r .2)) (λ b. (suc n, omega arith, one (suc n) x b))
-      (in-append x (together p f S n) (ifProduct (p (suc n)) (sectorsOf (chainAt f S (suc n)))) h)
+      (in-append x (allSectors p f S n) (ifProduct (p (suc n)) (sectorsOf (chainAt f S (suc n)))) h)
 
   once : (j : ℕ) → Distinct (ifProduct (p j) (sectorsOf (chainAt f S j)))
   once j = go (p j) refl (walk f S j (S - 3)) refl
@@ -57,14 +58,14 @@ module _ {P : ℕ → Type 0} {p : ℕ → Bool} {S : ℕ} (t : Tested P p S) (f
 
   -- none of the products 1, .., n shares a sector with a lower one
   module _ (n : ℕ) (clean : (k : ℕ) → k ≤ n → Shares P f S k → ⊥) where
-    pub together-once : Distinct (together p f S n)
-    unfolding together
+    pub together-once : Distinct (allSectors p f S n)
+    unfolding allSectors
     together-once = upto n (omega arith)
       where
-        upto : (m : ℕ) → m ≤ n → Distinct (together p f S m)
+        upto : (m : ℕ) → m ≤ n → Distinct (allSectors p f S m)
         upto zero l = tt
         upto (suc m) l =
-            distinct-append (together p f S m) (ifProduct (p (suc m)) (sectorsOf (chainAt f S (suc m)))) (upto m (omega arith)) (once (suc m))
+            distinct-append (allSectors p f S m) (ifProduct (p (suc m)) (sectorsOf (chainAt f S (suc m)))) (upto m (omega arith)) (once (suc m))
             (λ c. let r = passed m (c .0) (c .1) in let a = r .2 in let b = one (suc m) (c .0) (c .2) in
             clean (suc m) l
             (record {
@@ -81,7 +82,7 @@ module _ {P : ℕ → Type 0} {p : ℕ → Bool} {S : ℕ} (t : Tested P p S) (f
               common = (c .0, a .inside, b .inside);
             }))
 
-    pub together-few : length (together p f S n) ≤ S - 3
+    pub together-few : length (allSectors p f S n) ≤ S - 3
     together-few =
-        few (S - 3) (together p f S n) together-once
+        few (S - 3) (allSectors p f S n) together-once
         (λ x h. let r = passed n x h .2 in let s = chain-sectors f S (t .sector _ (r .is-product)) (r .chain) x (r .inside) in (s .low, s .high))

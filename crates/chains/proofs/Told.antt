@@ -6,7 +6,8 @@ use Prim.Native.Nat.{ℕ, _-_, _≤_, _<_}
 use native.Mathlib.Omega.{arith}
 use borrow.Author.Tests.{eq-eqb, ne-eqb}
 use lib.ListN.{length}
-use Rattle.chains.specs.Chain.{Sector, Ends, fresh, used, blocked, lastOf, found}
+use Rattle.chains.specs.Chain.{Sector, Ends, fresh, used, blocked, lastOf}
+use Rattle.chains.specs.Walk.{found}
 use Rattle.chains.specs.Packed.{lastLeft, lastTold, leftTold, countTold, markSaid}
 
 module _ (n : ℕ) (ss : List ℕ) (m : ℕ) (small : lastOf ss < 256) (short : length ss ≤ n) where

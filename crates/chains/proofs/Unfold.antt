@@ -8,7 +8,8 @@ use native.Mathlib.Omega.{arith}
 use native.Mathlib.Numerals.{add-one, sub-one}
 use lib.ListN.{getD, set}
 use borrow.Author.Tests.{eq-eqb, ne-eqb}
-use Rattle.chains.specs.Chain.{Sector, Names, Leads, Link, end, to, bad, link, member, past, Walk, found, broken, after, onLink, walkOn, walk}
+use Rattle.chains.specs.Chain.{Sector, Names, Leads}
+use Rattle.chains.specs.Walk.{Link, end, to, bad, link, member, past, Walk, found, broken, after, onLink, walkOn, walk}
 use Rattle.chains.specs.Packed.{lastLeft}
 use Rattle.chains.specs.Owners.{stop, again, byLink, follow}
 use Rattle.chains.proofs.Laws.{View, v-end, v-to, v-bad, view, walk-on-finds, walk-on-leads, no-return, walk-finds, walk-leads, walk-short, last-cons}

@@ -1,10 +1,10 @@
--- How many elements the two passes over a card's chains consult, step by step as their code goes, in the terms of its contracts: `p j` is the test
+-- An annex: how many elements the two passes over a card's chains consult, step by step as their code goes, in the terms of its contracts: `p j` is the test
 -- that entry j is a product. No contract cites it. Assumes nothing.
 use mathlib.Core.Bool.{Bool, cond}
 use mathlib.Core.List.{List}
 use Prim.Native.Nat.{ℕ, zero, suc, _+_, _-_}
 use lib.ListN.{getD, set, replicate}
-use Rattle.chains.specs.Chain.{Link, end, to, bad, link, walk}
+use Rattle.chains.specs.Walk.{Link, end, to, bad, link, walk}
 use Rattle.chains.specs.Packed.{lastLeft, lastTold, leftTold}
 use Rattle.chains.specs.Owners.{follow}
 

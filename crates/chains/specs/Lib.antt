@@ -1,5 +1,7 @@
 pub mod Chain
 pub mod Psi
+pub mod Breaks
+pub mod Walk
 pub mod Packed
 pub mod Products
 pub mod Owners

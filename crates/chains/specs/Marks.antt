@@ -1,4 +1,4 @@
--- A table with one element replaced: what a mark does. Assumes nothing.
+-- An annex: a table with one element replaced: what a mark does. Assumes nothing.
 use Prim.Native.Nat.{ℕ}
 use mathlib.Core.Bool.{cond}
 use lib.Dec.{eqb}

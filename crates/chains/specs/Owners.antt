@@ -1,11 +1,11 @@
--- The walk that looks at no sector twice, for the question which of a card's chains is broken: `owner` has for each sector already met the entry
+-- An annex: the walk that looks at no sector twice, for the question which of a card's chains is broken: `owner` has for each sector already met the entry
 -- from which it was met, and 0 for each other (document 01, "Sector chains" and the row 10). Assumes nothing.
 use mathlib.Core.Bool.{not}
 use mathlib.Core.List.{List}
 use Prim.Native.Nat.{ℕ, zero, suc}
 use lib.Dec.{eqb}
 use lib.ListN.{getD, set}
-use Rattle.chains.specs.Chain.{Link, end, to, bad, link}
+use Rattle.chains.specs.Walk.{Link, end, to, bad, link}
 use Rattle.chains.specs.Products.{when}
 
 -- 0 where the chain is broken, else one more than the elements still allowed; and the owners then

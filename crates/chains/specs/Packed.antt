@@ -1,4 +1,4 @@
--- A packed chain table that stands anywhere in a list of bytes, and what is told of a walk over it (document 01, "Sector chains").
+-- An annex: a packed chain table that stands anywhere in a list of bytes, and what is told of a walk over it (document 01, "Sector chains").
 -- Assumes nothing.
 use mathlib.Core.Bool.{cond}
 use mathlib.Core.List.{List}
@@ -7,7 +7,8 @@ use Prim.Native.Nat.{ℕ, _+_, _-_, _*_, _/_, _%_, _≤_}
 use lib.Dec.{eqb}
 use lib.ListN.{length}
 use Rattle.bits.specs.Bits.{field}
-use Rattle.chains.specs.Chain.{Walk, found, broken, lastOf}
+use Rattle.chains.specs.Walk.{Walk, found, broken}
+use Rattle.chains.specs.Chain.{lastOf}
 use Rattle.chains.specs.declared.Table.{Table}
 
 -- the bit where the element of sector i stands, of p bits, in a table that starts at bit first: SCT(1) is the first
@@ -15,8 +16,8 @@ abbrev pub elementAt : ℕ → ℕ → ℕ → ℕ
 elementAt first p i = first + p * (i - 1)
 
 -- the element of sector i
-abbrev pub packed : List ℕ → ℕ → ℕ → ℕ → ℕ
-packed l first p i = field l (elementAt first p i) p
+abbrev pub elementIn : List ℕ → ℕ → ℕ → ℕ → ℕ
+elementIn l first p i = field l (elementAt first p i) p
 
 -- the table lies within l, from a whole byte on that is not one of the first two
 pub record Inside (l : List ℕ) (t : Table) : Type 0 where

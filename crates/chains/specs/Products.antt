@@ -1,13 +1,12 @@
--- The chains of a card's products: `P j` says that entry j is a product, `p j` is the test of it, and its chain starts at sector j.
--- Document 01, "Sector chains" and the rows 10 and 11. Assumes nothing.
+-- An annex: the chains of a card's products, as the machine finds them. `P j` says that entry j is a product, `p j` is the test of it, and its chain
+-- starts at sector j. Document 01, "Sector chains" and the rows 10 and 11. Assumes nothing.
 use mathlib.Core.Logic.{_≢_}
 use mathlib.Core.Bool.{Bool, true, false, _&&_, _||_}
 use mathlib.Core.List.{List, [], _∷_, _++_}
-use Prim.Native.Nat.{ℕ, zero, suc, _-_, _<_}
+use Prim.Native.Nat.{ℕ, zero, suc, _-_}
 use lib.ListN.{length}
-use Rattle.chains.specs.Chain.{Chain, NoChain, Common, In, lastOf, Walk, found, broken, walk, member}
-
--- ---- said plainly
+use Rattle.chains.specs.Chain.{Chain, Common, In, lastOf}
+use Rattle.chains.specs.Walk.{Walk, found, broken, walk, member}
 
 -- every product has a chain
 abbrev pub Chained : (ℕ → Type 0) → (ℕ → ℕ) → ℕ → Type 0
@@ -17,25 +16,6 @@ Chained P f S = (j : ℕ) → P j → (ss : List ℕ) × (m : ℕ) × Chain f S 
 abbrev pub Disjoint : (ℕ → Type 0) → (ℕ → ℕ) → ℕ → Type 0
 Disjoint P f S =
     (j k : ℕ) → P j → P k → j ≢ k → (ss ts : List ℕ) (m n : ℕ) → Chain f S j ss m → Chain f S k ts n → Common ss ts → ⊥
-
--- 10: entry j is a product, and no chain starts at sector j
-pub record Broken (P : ℕ → Type 0) (f : ℕ → ℕ) (S j : ℕ) : Type 0 where
-  pub is-product : P j
-  pub none : NoChain f S j
-
--- 11: the chain of product k has a sector in common with that of a lower product
-pub record Shares (P : ℕ → Type 0) (f : ℕ → ℕ) (S k : ℕ) : Type 0 where
-  pub lower : ℕ
-  pub below : lower < k
-  pub product-lower : P lower
-  pub product-k : P k
-  pub sectors : List ℕ
-  pub mark : ℕ
-  pub sectors-k : List ℕ
-  pub mark-k : ℕ
-  pub chain : Chain f S lower sectors mark
-  pub chain-k : Chain f S k sectors-k mark-k
-  pub common : Common sectors sectors-k
 
 -- no product's chain passes sector x: its element is carried and not judged
 abbrev pub InNoChain : (ℕ → Type 0) → (ℕ → ℕ) → ℕ → ℕ → Type 0
@@ -102,6 +82,6 @@ ifProduct true ss = ss
 ifProduct false ss = []
 
 -- the sectors of the chains of the products 1, .., n, joined
-unfoldable pub together : (ℕ → Bool) → (ℕ → ℕ) → ℕ → ℕ → List ℕ
-together p f S zero = []
-together p f S (suc n) = together p f S n ++ ifProduct (p (suc n)) (sectorsOf (chainAt f S (suc n)))
+unfoldable pub allSectors : (ℕ → Bool) → (ℕ → ℕ) → ℕ → ℕ → List ℕ
+allSectors p f S zero = []
+allSectors p f S (suc n) = allSectors p f S n ++ ifProduct (p (suc n)) (sectorsOf (chainAt f S (suc n)))

@@ -7,10 +7,8 @@ pub record IsPsi (s p : ℕ) : Type 0 where
   pub enough : s ≤ 2 ^ p
   pub least : 2 ^ p < 2 * s
 
--- Ψ by the digits of s - 1; that it is that number, and the only one, is proved in PsiLaws
-unfoldable pub Ψ : ℕ → ℕ
+unfoldable pub Ψ : ℕ → ℕ  -- Ψ by the digits of s - 1; that it is that number, and the only one, is proved in PsiLaws
 Ψ s = 32 - leadingZeros 32 (s - 1)
 
--- SCTL: the whole bytes of a table of s - 3 elements of Ψ bits
-unfoldable pub tableBytes : ℕ → ℕ
+unfoldable pub tableBytes : ℕ → ℕ  -- SCTL: the whole bytes of a table of s - 3 elements of Ψ bits
 tableBytes s = (Ψ s * (s - 3) + 7) / 8

@@ -3,10 +3,11 @@ ghost use mathlib.Core.Path.{_≡_};
 ghost use Prim.Native.Nat.{ℕ, _*_, _/_, _%_, _<_, _≤_};
 ghost use lib.ListN.{length};
 ghost use Rattle.bits.specs.Bits.{store};
-ghost use Rattle.chains.specs.Chain.{Sector, walk};
+ghost use Rattle.chains.specs.Chain.{Sector};
+ghost use Rattle.chains.specs.Walk.{walk};
 ghost use Rattle.chains.specs.Owners.{stop, follow};
 ghost use Rattle.chains.specs.Psi.{Ψ, tableBytes};
-ghost use Rattle.chains.specs.Packed.{Inside, elementAt, packed, tabled, lastLeft, lastTold, leftTold, markSaid};
+ghost use Rattle.chains.specs.Packed.{Inside, elementAt, elementIn, tabled, lastLeft, lastTold, leftTold, markSaid};
 
 // A chain table: the bit where it starts, the bits of an element, and the number of sectors.
 pub struct Table {
@@ -39,7 +40,7 @@ pub fn table_bytes(s: usize) -> usize
 pub fn element(l: &[u8], t: Table, i: usize) -> usize
     requires { ⌜ Inside (now l) t ⌝ }
     requires { ⌜ Sector (t .sectors) i ⌝ }
-    ensures { λ r. ⌜ r ≡ packed (now (l .entry)) (t .first) (t .psi) i ⌝ }
+    ensures { λ r. ⌜ r ≡ elementIn (now (l .entry)) (t .first) (t .psi) i ⌝ }
 {
     if t.psi == 8 {
         return l[t.first / 8 + (i - 1)] as usize;
@@ -57,12 +58,12 @@ pub fn put_element(l: &mut [u8], t: Table, i: usize, x: usize)
 }
 
 // The walk from sector i, with 256 in `allowed` for each sector still allowed: the last sector, and 256 for each that was allowed where it was met;
-// 0 where the chain is broken. One test ends it; which end it is, is looked at afterwards. It counts in 256s, so that one number is kept and not two.
+// 0 where the chain is broken. It counts in 256s, so that one number is kept and not two.
 pub fn walk(l: &&[u8], first: usize, psi: usize, sectors: usize, i: usize, allowed: usize) -> usize
     requires { ⌜ Inside (now (now l)) (tabled first psi sectors) ⌝ }
     requires { ⌜ Sector sectors i ⌝ }
     requires { ⌜ (allowed < 65536) × (allowed % 256 ≡ 0) ⌝ }
-    ensures { λ (r : ℕ). ⌜ r ≡ lastLeft (allowed / 256) (walk (packed (now (now (l .entry))) first psi) sectors i (allowed / 256)) ⌝ }
+    ensures { λ (r : ℕ). ⌜ r ≡ lastLeft (allowed / 256) (walk (elementIn (now (now (l .entry))) first psi) sectors i (allowed / 256)) ⌝ }
 {
     if allowed == 0 {
         return 0;
@@ -73,11 +74,15 @@ pub fn walk(l: &&[u8], first: usize, psi: usize, sectors: usize, i: usize, allow
         sectors: sectors,
     };
     let x = element(*l, t, i);
-    if (x == i) | (x == 0) | (sectors - 3 < x) {
-        if (x != i) & ((x == 0) | (sectors - 1 < x)) {
+    let told = i + allowed;
+    if i == x {
+        return told;
+    }
+    if (x == 0) | (sectors - 3 < x) {
+        if (x == 0) | (sectors - 1 < x) {
             return 0;
         }
-        return i + allowed;
+        return told;
     }
     walk(l, first, psi, sectors, x, allowed - 256)
 }
@@ -88,7 +93,7 @@ pub fn follow(l: &[u8], t: Table, k: usize, left: usize, owner: &mut [u8]) -> us
     requires { ⌜ Inside (now l) t ⌝ }
     requires { ⌜ Sector (t .sectors) k ⌝ }
     requires { ⌜ (left < 256) × (length (now owner) ≡ 256) ⌝ }
-    ensures { λ r. ⌜ stop r (now (owner .exit)) ≡ follow (packed (now (l .entry)) (t .first) (t .psi)) (t .sectors) k left (now (owner .entry)) k ⌝ }
+    ensures { λ r. ⌜ stop r (now (owner .exit)) ≡ follow (elementIn (now (l .entry)) (t .first) (t .psi)) (t .sectors) k left (now (owner .entry)) k ⌝ }
 {
     let mut i = k;
     let mut n = left;

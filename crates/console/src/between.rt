@@ -1,5 +1,4 @@
 // Which products differ between two images.
-use card::Answer;
 use card::Checked;
 use text::prints;
 use text::words;
@@ -25,11 +24,11 @@ fn compared(before: &[u8], after: &[u8], flags: &mut [u8]) {
     let n = words::least(entries(before), flags.len());
     let answer = card::touched(before, after, &mut flags[0..n]);
     let whole = &flags[..];
-    let Answer::Refused(number, entry) = answer else {
+    if answer.number == 0 {
         named(&whole[0..n]);
         return;
-    };
-    prints::plain(number, entry);
+    }
+    prints::plain(answer.number, answer.entry);
 }
 
 // The entries that are flagged.

@@ -1,33 +1,30 @@
-// Commands on bytes that a line gives in hexadecimal, and on one value of a record: those of a test program.
-use crate::values;
+// Commands on bytes that a line gives in hexadecimal: those of a test program.
+use crate::commands::Decode;
 use text::Number;
 use text::hex;
 use text::prints;
 use text::words;
-use text::words::MOST;
+ghost use mathlib.Core.Path.{_≡_};
+ghost use lib.ListN.{length};
+ghost use lib.Dec.{eqb};
+ghost use Rattle.text.specs.Hex.{hexCount};
+ghost use Rattle.console.specs.Makes.{filledBy};
 
 // The most bytes that a line gives.
 const MOST_BYTES: usize = 70000;
 
 // `rest` is what stands after the word and a blank.
-pub(crate) fn decode(word: &[u8], count: usize, list: &[u64; MOST], rest: &[u8]) -> bool {
-    match words::place(
-        word,
-        count,
-        b"value 23 crc * decode-entry * decode-head * decode-tail * decode-header * decode-ticket * decode-shell * decode-table *",
-    ) {
-        0 => values::value(list),
-        1 => crc(rest),
-        2 => entry(rest),
-        3 => head(rest),
-        4 => tail(rest),
-        5 => header(rest),
-        6 => ticket(rest),
-        7 => shell(rest),
-        8 => table(rest),
-        _ => return false,
+pub(crate) fn decode(asked: Decode, rest: &[u8]) {
+    match asked {
+        Decode::Crc => crc(rest),
+        Decode::Entry => entry(rest),
+        Decode::Head => head(rest),
+        Decode::Tail => tail(rest),
+        Decode::Header => header(rest),
+        Decode::Ticket => ticket(rest),
+        Decode::Shell => shell(rest),
+        Decode::Table => table(rest),
     }
-    true
 }
 
 // A buffer for the bytes of a line.
@@ -52,7 +49,9 @@ fn crc_of(bytes: &[u8]) {
 }
 
 // Puts the bytes that a word means into the buffer, which they must fill; else the line is not understood.
-fn fills(word: &[u8], into: &mut [u8]) -> bool {
+fn fills(word: &[u8], into: &mut [u8]) -> bool
+    ensures { λ r. ⌜ (r ≡ eqb (hexCount (now (word .entry))) (length (now (into .entry)))) × (now (into .exit) ≡ filledBy (now (word .entry)) (now (into .entry))) ⌝ }
+{
     if hex::count(word) != into.len() {
         prints::unknown();
         return false;

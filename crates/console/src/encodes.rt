@@ -1,11 +1,13 @@
 // Commands that encode values.
 use crate::FILLING;
+use crate::commands::Encode;
 use crate::values;
+use card::Answer;
 use card::Shell;
-use card::Written;
 use text::prints;
-use text::words;
 use text::words::MOST;
+ghost use mathlib.Core.Path.{_≡_};
+ghost use Rattle.console.specs.Commands.{numbersFrom};
 
 // The largest buffer that a command lends.
 const LENT: usize = 4096;
@@ -13,22 +15,17 @@ const LENT: usize = 4096;
 // How many values a shell has.
 const VALUES: usize = 16;
 
-pub(crate) fn encode(word: &[u8], count: usize, list: &[u64; MOST]) -> bool {
-    match words::place(
-        word,
-        count,
-        b"encode-entry 7 encode-head 3 encode-tail 4 encode-header 3 encode-ticket 22 encode-shell 17 encode-table *",
-    ) {
-        0 => entry(list),
-        1 => head(list),
-        2 => tail(list),
-        3 => header(list),
-        4 => ticket(list),
-        5 => shell(list),
-        6 => table(list[0], list[1] as usize, list, count),
-        _ => return false,
+// `list` holds the numbers of the line, so many as `count` says.
+pub(crate) fn encode(asked: Encode, count: usize, list: &[u64; MOST]) {
+    match asked {
+        Encode::Entry => entry(list),
+        Encode::Head => head(list),
+        Encode::Tail => tail(list),
+        Encode::Header => header(list),
+        Encode::Ticket => ticket(list),
+        Encode::Shell(n) => shell(n, shell_of(list)),
+        Encode::Table(s, n) => table(s, n, list, count),
     }
-    true
 }
 
 fn entry(list: &[u64; MOST]) {
@@ -75,35 +72,33 @@ fn filled() -> [u8; LENT] {
 }
 
 // What a call that writes into a lent buffer answered, and the buffer after it.
-fn lent(written: Written, buffer: &[u8]) {
-    let Written::Refused(number, entry) = written else {
-        prints::encoded(0, 0, buffer);
-        return;
-    };
-    prints::encoded(number, entry, buffer);
+fn lent(r: Answer, buffer: &[u8]) {
+    prints::encoded(r.number, r.entry, buffer);
 }
 
-// The buffer's size, and the sixteen values.
-fn shell(list: &[u64; MOST]) {
-    let n = list[0] as usize;
+// Into a buffer of so many bytes.
+fn shell(n: usize, t: Shell) {
     if LENT < n {
         prints::unknown();
         return;
     }
     let mut buffer = filled();
-    shell_into(list, &mut buffer[0..n]);
+    shell_into(t, &mut buffer[0..n]);
 }
 
-fn shell_into(list: &[u64; MOST], buffer: &mut [u8]) {
-    let written = card::encode_shell(shell_of(list), buffer);
+fn shell_into(t: Shell, buffer: &mut [u8]) {
+    let written = card::encode_shell(t, buffer);
     lent(written, buffer);
 }
 
-fn shell_of(list: &[u64; MOST]) -> Shell {
+// The shell whose values are the sixteen numbers after the first.
+fn shell_of(list: &[u64; MOST]) -> Shell
+    ensures { λ r. ⌜ r .values ≡ numbersFrom 16 1 (now (list .entry)) ⌝ }
+{
     let mut v = [0u64; VALUES];
     let mut i = 0;
     while i < VALUES {
-        v[i] = list[i + 1];
+        v[i] = list[1 + i];
         i += 1;
     }
     Shell { values: v }

@@ -1,6 +1,7 @@
 // Image files: one is read whole, and one is written beside its place and then put there.
 use crate::LARGEST;
 use crate::between;
+use crate::commands::File;
 use text::prints;
 use text::words;
 use text::words::NONE;
@@ -67,18 +68,15 @@ fn save_by(name: &[u8], path: &[u8], image: &[u8]) -> bool {
     false
 }
 
-// Answers the desk's commands on files, each with one word after it that names the file; the image has so many bytes.
-pub(crate) fn answer(word: &[u8], path: &[u8], image: &[u8], size: usize) {
+// Answers the desk's commands on files, each with one word after it that names the file.
+pub(crate) fn answer(asked: File, path: &[u8], image: &[u8]) {
     if (words::first(path) < path.len()) | (path.len() == 0) {
         prints::unknown();
         return;
     }
-    let n = words::least(size, image.len());
-    let held = &image[0..n];
-    match words::place(word, 1, b"save * touched *") {
-        0 => save_to(path, held),
-        1 => touched_since(path, held),
-        _ => prints::unknown(),
+    match asked {
+        File::Save => save_to(path, image),
+        File::Touched => touched_since(path, image),
     }
 }
 

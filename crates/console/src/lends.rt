@@ -1,34 +1,24 @@
 // Commands that lend a buffer to a read of a ticket.
 use crate::FILLING;
+use crate::commands::Lend;
 use card::TicketRead;
 use text::prints;
-use text::words;
-use text::words::MOST;
 ghost use mathlib.Core.Path.{_≡_};
 ghost use lib.ListN.{length, replicate};
+ghost use Rattle.reads.specs.Ticket.{bufferAfter};
+ghost use Rattle.console.specs.Lends.{lentTo, Lent};
 
-// `ticket` and `rest` stand in the list twice, without and with the size of the buffer to lend.
-pub(crate) fn lend(
-    word: &[u8],
-    count: usize,
-    list: &[u64; MOST],
-    image: &[u8],
-    buffer: &mut [u8],
-) -> bool {
-    let j = list[0] as usize;
-    let n = size(list, count, buffer.len());
-    match words::place(word, count, b"ticket 1 ticket 2 rest 1 rest 2 buffer 1") / 2 {
-        0 => ticket(image, j, n, buffer),
-        1 => rest(image, j, n, buffer),
-        2 => shown(j, buffer),
-        _ => return false,
+pub(crate) fn lend(asked: Lend, image: &[u8], buffer: &mut [u8])
+    ensures { λ _. ⌜ Lent asked (now (image .entry)) (now (buffer .entry)) (now (buffer .exit)) ⌝ }
+{
+    let all = buffer.len();
+    match asked {
+        Lend::Ticket(j) => ticket(image, j, all, buffer),
+        Lend::TicketIn(j, size) => ticket(image, j, size, buffer),
+        Lend::Rest(j) => rest(image, j, all, buffer),
+        Lend::RestIn(j, size) => rest(image, j, size, buffer),
+        Lend::Buffer(size) => shown(size, buffer),
     }
-    true
-}
-
-// The size of the buffer to lend: the second number, and all of it where there is none.
-fn size(list: &[u64; MOST], count: usize, all: usize) -> usize {
-    if count == 1 { all } else { list[1] as usize }
 }
 
 // Fills a buffer with a byte.
@@ -42,7 +32,9 @@ pub(crate) fn fill(s: &mut [u8], b: u8)
     }
 }
 
-fn ticket(image: &[u8], j: usize, size: usize, buffer: &mut [u8]) {
+fn ticket(image: &[u8], j: usize, size: usize, buffer: &mut [u8])
+    ensures { λ _. ⌜ now (buffer .exit) ≡ lentTo (now (image .entry)) j size (now (buffer .entry)) ⌝ }
+{
     if buffer.len() < size {
         prints::unknown();
         return;
@@ -51,7 +43,9 @@ fn ticket(image: &[u8], j: usize, size: usize, buffer: &mut [u8]) {
     ticket_in(image, j, &mut buffer[0..size]);
 }
 
-fn ticket_in(image: &[u8], j: usize, buffer: &mut [u8]) {
+fn ticket_in(image: &[u8], j: usize, buffer: &mut [u8])
+    ensures { λ _. ⌜ now (buffer .exit) ≡ bufferAfter (now (image .entry)) j (now (buffer .entry)) ⌝ }
+{
     told(card::read_ticket(image, j, buffer));
 }
 

@@ -1,15 +1,17 @@
 // The desk and the test program: each line of standard input is answered on standard output, from an image.
 mod between;
 mod changes;
+mod commands;
 mod decodes;
 mod encodes;
 mod files;
 mod lends;
 mod listing;
 mod looks;
-mod tries;
+mod makes;
 mod values;
 
+use commands::Command;
 pub use listing::LARGEST_ACCEPTED;
 pub use listing::list;
 use text::feed;
@@ -96,11 +98,12 @@ fn answer(
     }
     let end = words::first(line);
     let start = words::after(line, end);
-    let mut list = [0u64; MOST];
-    let count = words::numbers(line, end, &mut list);
-    command(
-        &line[0..end],
-        count,
+    let read = commands::of_line(line, s.all);
+    let asked = read.command;
+    let list = read.list;
+    obey(
+        asked,
+        read.count,
         &list,
         &line[start..],
         image,
@@ -110,9 +113,9 @@ fn answer(
     )
 }
 
-// Answers a command; `rest` is what stands after its word and a blank.
-fn command(
-    word: &[u8],
+// Does what is asked; `rest` is what stands after the command's word and a blank.
+fn obey(
+    asked: Command,
     count: usize,
     list: &[u64; MOST],
     rest: &[u8],
@@ -122,40 +125,16 @@ fn command(
     s: State,
 ) -> State {
     let n = words::least(s.image, image.len());
-    if common(word, count, list, &mut image[0..n], buffer) {
-        return s;
+    match asked {
+        Command::Look(look) => looks::look(look, &image[0..n]),
+        Command::Lend(lend) => lends::lend(lend, &image[0..n], buffer),
+        Command::Change(change) => changes::change(change, list, &mut image[0..n]),
+        Command::Reckon(reckon) => values::reckon(reckon, list),
+        Command::Encode(encode) => encodes::encode(encode, count, list),
+        Command::Make(make) => return makes::make(make, rest, image, kept, s),
+        Command::Decode(decode) => decodes::decode(decode, rest),
+        Command::File(file) => files::answer(file, rest, &image[0..n]),
+        Command::Unknown => prints::unknown(),
     }
-    other(word, count, list, rest, image, kept, s)
-}
-
-// Answers a command that only one of the two has.
-fn other(
-    word: &[u8],
-    count: usize,
-    list: &[u64; MOST],
-    rest: &[u8],
-    image: &mut [u8],
-    kept: &mut [u8],
-    s: State,
-) -> State {
-    if s.all {
-        return tries::answer(word, count, list, rest, image, kept, s);
-    }
-    files::answer(word, rest, image, s.image);
     s
-}
-
-// Answers a command that the desk and the test program have, if it is one. No two of the five know the same.
-fn common(
-    word: &[u8],
-    count: usize,
-    list: &[u64; MOST],
-    image: &mut [u8],
-    buffer: &mut [u8],
-) -> bool {
-    looks::look(word, count, list, image)
-        | lends::lend(word, count, list, image, buffer)
-        | changes::change(word, count, list, image)
-        | values::reckon(word, count, list)
-        | encodes::encode(word, count, list)
 }

@@ -1,27 +1,20 @@
 // Commands that look at the image.
+use crate::commands::Look;
 use crate::listing;
 use card::Checked;
 use text::prints;
-use text::words;
-use text::words::MOST;
 
-pub(crate) fn look(word: &[u8], count: usize, list: &[u64; MOST], image: &[u8]) -> bool {
-    match words::place(
-        word,
-        count,
-        b"check 0 bytes 0 list 0 shell 0 directory 0 table 0 entry 1 chain 1",
-    ) {
-        0 => check(image),
-        1 => bytes(image),
-        2 => listing::list(image),
-        3 => shell(image),
-        4 => directory(image),
-        5 => table(image),
-        6 => entry(image, list[0] as usize),
-        7 => chain(image, list[0] as usize),
-        _ => return false,
+pub(crate) fn look(asked: Look, image: &[u8]) {
+    match asked {
+        Look::Check => check(image),
+        Look::Bytes => bytes(image),
+        Look::List => listing::list(image),
+        Look::Shell => shell(image),
+        Look::Directory => directory(image),
+        Look::Table => table(image),
+        Look::Entry(j) => entry(image, j),
+        Look::Chain(j) => chain(image, j),
     }
-    true
 }
 
 fn check(image: &[u8]) {

@@ -1,55 +1,52 @@
 // Commands on dates and on a record of values.
-use card::Dated;
+use crate::commands::Reckon;
 use card::Record;
-use card::Stamped;
 use text::prints;
-use text::words;
 use text::words::MOST;
 ghost use Prim.Native.Nat.{_+_, _≤_};
+ghost use mathlib.Core.Path.{_≡_};
+ghost use Rattle.console.specs.Commands.{numbersFrom};
 
 // How many values a ticket's record has.
 const FIELDS: usize = 22;
 
-pub(crate) fn reckon(word: &[u8], count: usize, list: &[u64; MOST]) -> bool {
-    match words::place(word, count, b"date 1 stamp 3 set 24") {
-        0 => date(list[0]),
-        1 => stamp(list[0], list[1], list[2]),
-        2 => set(list),
-        _ => return false,
+// `list` holds the numbers of the line.
+pub(crate) fn reckon(asked: Reckon, list: &[u64; MOST]) {
+    match asked {
+        Reckon::Date(n) => date(n),
+        Reckon::Stamp(year, month, day) => stamp(year, month, day),
+        Reckon::Set(field, n) => set(field, n, record(list, 2)),
+        Reckon::Value(field) => value(field, record(list, 1)),
     }
-    true
 }
 
 fn date(stamp: u64) {
-    match card::date(stamp) {
-        Dated::On(d) => prints::valued(0, 0, &[d.year, d.month, d.day]),
-        Dated::Refused(number, entry) => prints::valued(number, entry, &[0, 0, 0]),
-    }
+    let r = card::date(stamp);
+    prints::valued(r.number, r.entry, &[r.year, r.month, r.day]);
 }
 
 fn stamp(year: u64, month: u64, day: u64) {
-    match card::stamp(year, month, day) {
-        Stamped::At(n) => prints::valued(0, 0, &[n]),
-        Stamped::Refused(number, entry) => prints::valued(number, entry, &[0]),
-    }
+    let r = card::stamp(year, month, day);
+    prints::valued(r.number, r.entry, &[r.stamp]);
 }
 
-fn set(list: &[u64; MOST]) {
-    let r = record(list, 2).set(list[0] as usize, list[1]);
+fn set(field: usize, n: u64, t: Record) {
+    let r = t.set(field, n);
     let next = r.next;
     let v = next.values;
     prints::valued(r.number, r.entry, &v);
 }
 
 // A field's value of a record.
-pub(crate) fn value(list: &[u64; MOST]) {
-    let r = record(list, 1).value(list[0] as usize);
+fn value(field: usize, t: Record) {
+    let r = t.value(field);
     prints::valued(r.number, r.entry, &[r.value]);
 }
 
 // The record whose values are the numbers from `from` on.
 pub(crate) fn record(list: &[u64; MOST], from: usize) -> Record
     requires { ⌜ from + 22 ≤ 302 ⌝ }
+    ensures { λ r. ⌜ r .values ≡ numbersFrom 22 from (now (list .entry)) ⌝ }
 {
     let mut v = [0u64; FIELDS];
     let mut i = 0;

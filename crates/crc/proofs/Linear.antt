@@ -10,6 +10,7 @@ use lib.Dec.{eqb, T, eqb→eq}
 use lib.Pow.{pow-pos}
 use lib.Bits.{bitXor, xor-comm, xor-self, xor-block, xor-mod, xor-shr, xor-shifted}
 use Rattle.crc.specs.Crc.{clocks}
+use Rattle.crc.specs.Carry.{left, right}
 use Rattle.crc.proofs.Step.{assoc, clocks-sum}
 
 -- f of a sum is the sum of f's
@@ -42,13 +43,6 @@ times k a b =
     let q : b * 2 ^ k + 0 ≡ b * 2 ^ k = omega arith in
     let r : bitXor a b * 2 ^ k + bitXor 0 0 ≡ bitXor a b * 2 ^ k = ap (λ (x : ℕ). bitXor a b * 2 ^ k + x) (xor-self 0) ∙ omega arith in
     sym (sym (ap₂ bitXor p q) ∙ z ∙ r)
-
--- a shift to the left in 64 bits, and to the right
-abbrev pub left : ℕ → ℕ → ℕ
-left k x = x * 2 ^ k % 2 ^ 64
-
-abbrev pub right : ℕ → ℕ → ℕ
-right k x = x / 2 ^ k
 
 pub lefts : (k : ℕ) → Linear (left k)
 lefts k a b = ap (λ (x : ℕ). x % 2 ^ 64) (times k a b) ∙ xor-mod (a * 2 ^ k) (b * 2 ^ k) 64

@@ -1,22 +1,17 @@
 -- The shifts of the code, and that they are 64 clocks; and fewer clocks by these. Assumes nothing.
 use mathlib.Core.Path.{_≡_, sym, ap, _∙_}
-use Prim.Native.Nat.{ℕ, zero, suc, _+_, _*_, _/_, _%_, _^_, _<_, _≤_}
-use native.Mathlib.Nat.{lt-of-lt-of-le, mod-eq-of-lt, mul-lt-mul-of-pos-right, pow-succ', zero-add, suc-add}
+use Prim.Native.Nat.{ℕ, zero, suc, _+_, _*_, _/_, _%_, _^_, _<_}
+use native.Mathlib.Nat.{mod-eq-of-lt, mul-lt-mul-of-pos-right, pow-succ', zero-add, suc-add}
 use native.Mathlib.Omega.{arith}
 use lib.Dec.{T}
 use lib.Bits.{bitXor, xor-lt, xor-zero-l}
-use lib.Pow.{pow-add, pow-mono, pow-pos}
+use lib.Pow.{pow-add, pow-pos}
 use Rattle.crc.specs.Crc.{clock, clocks}
-use Rattle.crc.proofs.Step.{clocks-in, clocks-lt}
-use Rattle.crc.proofs.Linear.{Linear, left, right, plus, then, same, lefts, rights, agrees, agree, clocked}
+use Rattle.crc.specs.Carry.{left, right, once, twice, spread, carried}
+use Rattle.crc.proofs.Step.{clocks-in, clocks-lt, clocks-sum}
+use Rattle.crc.proofs.Linear.{Linear, plus, then, same, lefts, rights, agrees, agree, clocked}
 
--- x with its shifts by a; by a and b; by a, b and c
-abbrev pub once : ℕ → ℕ → ℕ
-once a x = bitXor x (left a x)
-
-abbrev pub twice : ℕ → ℕ → ℕ → ℕ
-twice a b x = bitXor (once a x) (left b x)
-
+-- x with its shifts by a, b and c
 abbrev pub thrice : ℕ → ℕ → ℕ → ℕ → ℕ
 thrice a b c x = bitXor (twice a b x) (left c x)
 
@@ -80,31 +75,68 @@ zeros (suc k) m x =
     ap (λ (n : ℕ). clocks n 0 (x * 2 ^ suc k)) (suc-add k m) ∙ ap (clocks (k + m) 0) (ap (λ (z : ℕ). clock z 0) e ∙ even (x * 2 ^ k)) ∙ zeros k m x
 
 -- the register and n bits of data, moved up by k
-pub fewer : (k n r w x y : ℕ) → k + n ≡ 64 → 16 ≤ n → r < 2 ^ 16 → w < 2 ^ n → x ≡ left k (bitXor r w) → y ≡ clocks 64 x 0 → y ≡ clocks n w r
-fewer k n r w x y e l h i p q =
-    let b : bitXor r w < 2 ^ n = xor-lt n r w (lt-of-lt-of-le h (pow-mono l)) i in
+pub fewer : (k n r w x y : ℕ) → k + n ≡ 64 → r < 2 ^ n → w < 2 ^ n → x ≡ left k (bitXor r w) → y ≡ clocks 64 x 0 → y ≡ clocks n w r
+fewer k n r w x y e h i p q =
+    let b : bitXor r w < 2 ^ n = xor-lt n r w h i in
     let s : 2 ^ n * 2 ^ k ≡ 2 ^ 64 = sym (pow-add 2 n k) ∙ ap (λ (m : ℕ). 2 ^ m) (let z : n + k ≡ 64 = omega arith in z) in
     let t : bitXor r w * 2 ^ k < 2 ^ 64 = rw s at (mul-lt-mul-of-pos-right b (pow-pos k)) in
     q ∙ ap (λ (z : ℕ). clocks 64 z 0) (p ∙ mod-eq-of-lt t) ∙ from-zero 64 (bitXor r w * 2 ^ k) t
     ∙ ap (λ (m : ℕ). clocks m 0 (bitXor r w * 2 ^ k)) (sym e) ∙ zeros k n (bitXor r w) ∙ sym (clocks-in n w r i)
 
--- ---- one byte: what is left of the register comes beside it
+-- ---- one byte and six: what is left of the register comes beside them
 
-abbrev shape8 : ℕ → ℕ
-shape8 x = bitXor (right 8 x) (clocks 64 0 (left 56 x))
+abbrev beside : ℕ → ℕ → ℕ → ℕ
+beside k n x = bitXor (right n x) (clocks 64 0 (left k x))
 
-linear8 : Linear shape8
-linear8 = plus (right 8) (λ x. clocks 64 0 (left 56 x)) (rights 8) (then (left 56) (clocks 64 0) (lefts 56) (clocked 64))
+beside-linear : (k n : ℕ) → Linear (beside k n)
+beside-linear k n = plus (right n) (λ x. clocks 64 0 (left k x)) (rights n) (then (left k) (clocks 64 0) (lefts k) (clocked 64))
 
-test8 : T (agrees 16 shape8 (clocks 8 0))
+abbrev Beside : ℕ → ℕ → Type 0
+Beside k n = T (agrees 64 (beside k n) (clocks n 0))
+
+pub beside-8 : Beside 56 8
 unfolding clocks clock
-test8 = tt
+beside-8 = tt
 
-pub one-law : (r w y : ℕ) → r < 2 ^ 16 → w < 2 ^ 8 → y ≡ clocks 64 (left 56 (bitXor r w)) 0
-    → (bitXor (right 8 (bitXor r w)) y ≡ clocks 8 w r) × (bitXor (right 8 (bitXor r w)) y < 2 ^ 16)
-one-law r w y h i q =
+pub beside-48 : Beside 16 48
+unfolding clocks clock
+beside-48 = tt
+
+pub beside-law : (k n : ℕ) → Beside k n → (r w y : ℕ) → r < 2 ^ 64 → w < 2 ^ 64 → w < 2 ^ n → y ≡ clocks 64 (left k (bitXor r w)) 0
+    → bitXor (right n (bitXor r w)) y ≡ clocks n w r
+beside-law k n t r w y h l i q =
     let x : ℕ = bitXor r w in
-    let e : bitXor (right 8 x) y ≡ clocks 8 w r =
-    ap (bitXor (right 8 x)) (q ∙ from-zero 64 (left 56 x) (omega arith))
-    ∙ agree 16 shape8 (clocks 8 0) linear8 (clocked 8) test8 x (xor-lt 16 r w h (omega arith)) ∙ sym (clocks-in 8 w r i) in
-    (e, rw e (clocks-lt 8 w r h))
+    ap (bitXor (right n x)) (q ∙ from-zero 64 (left k x) (omega arith))
+    ∙ agree 64 (beside k n) (clocks n 0) (beside-linear k n) (clocked n) t x (xor-lt 64 r w h l) ∙ sym (clocks-in n w r i)
+
+-- ---- 64 clocks that leave 64 bits
+
+carried-linear : Linear carried
+carried-linear =
+    then (λ x. twice 16 44 (once 32 x)) spread (then (once 32) (twice 16 44) (once-linear 32) (twice-linear 16 44))
+    (plus (λ z. bitXor z (right 20 z)) (right 48) (plus (λ z. z) (right 20) same (rights 20)) (rights 48))
+
+pub carried-lt : (x : ℕ) → x < 2 ^ 64 → carried x < 2 ^ 64
+carried-lt x h = down (twice 16 44 (once 32 x)) (up 44 (once 16 (once 32 x)) (once 32 x) (up 16 (once 32 x) (once 32 x) (up 32 x x h)))
+  where
+    up : (k y x : ℕ) → y < 2 ^ 64 → bitXor y (left k x) < 2 ^ 64
+    up k y x l = xor-lt 64 y (left k x) l (omega arith)
+
+    down : (z : ℕ) → z < 2 ^ 64 → spread z < 2 ^ 64
+    down z l = xor-lt 64 (bitXor z (right 20 z)) (right 48 z) (xor-lt 64 z (right 20 z) l (omega arith)) (omega arith)
+
+-- 48 clocks later they are the register
+carried-test : T (agrees 64 (λ x. clocks 48 0 (carried x)) (λ x. clocks 48 0 (clocks 64 0 x)))
+unfolding clocks clock
+carried-test = tt
+
+-- with 48 bits of data
+carried-after : (x v : ℕ) → x < 2 ^ 64 → v < 2 ^ 48 → clocks 48 v (carried x) ≡ clocks 48 v (clocks 64 0 x)
+carried-after x v h l =
+    clocks-in 48 v (carried x) l ∙ clocks-sum 48 (carried x) v
+    ∙ ap (λ (z : ℕ). bitXor z (clocks 48 0 v))
+    (agree 64 (λ x. clocks 48 0 (carried x)) (λ x. clocks 48 0 (clocks 64 0 x)) (then carried (clocks 48 0) carried-linear (clocked 48)) (then (clocks 64 0) (clocks 48 0) (clocked 64) (clocked 48)) carried-test x h)
+    ∙ sym (clocks-in 48 v (clocks 64 0 x) l ∙ clocks-sum 48 (clocks 64 0 x) v)
+
+pub carried-law : (r w v : ℕ) → r < 2 ^ 64 → w < 2 ^ 64 → v < 2 ^ 48 → clocks 48 v (carried (bitXor r w)) ≡ clocks 48 v (clocks 64 w r)
+carried-law r w v h l i = carried-after (bitXor r w) v (xor-lt 64 r w h l) i ∙ ap (clocks 48 v) (sym (clocks-in 64 w r l))

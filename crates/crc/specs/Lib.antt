@@ -1,2 +1,3 @@
 pub mod Crc
 pub mod Little
+pub mod Carry

@@ -1,4 +1,4 @@
--- Bytes as one number, the lowest first. Assumes nothing.
+-- An annex: bytes as one number, the lowest first. Assumes nothing.
 use Prim.Native.Nat.{ℕ, _+_, _*_}
 use mathlib.Core.List.{List, [], _∷_}
 use lib.ListN.{take, drop}

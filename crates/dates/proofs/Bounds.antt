@@ -4,14 +4,12 @@ use mathlib.Core.Path.{_≡_, refl, ap, sym, subst, _∙_}
 use Prim.Native.Nat.{ℕ, _%_, _≤_, _<_}
 use native.Mathlib.Omega.{arith}
 use native.Mathlib.Decide.{decLt, decLe}
-use Rattle.dates.specs.declared.answers.Date.{Date}
-use Rattle.dates.specs.declared.answers.Stamped.the-variants.{At, Refused}
-use Rattle.dates.specs.Calendar.{date, leap, monthDays, Possible, onDay}
-use Rattle.dates.specs.Calendar.Before.{by-year}
+use Rattle.dates.specs.declared.calendar.Date.{Date}
+use Rattle.dates.specs.Calendar.{date, leap, monthDays, onDay, dayOf, stampDate, stamped, stampOf}
+use Rattle.dates.specs.Impossible.{Possible, Unstamped}
+use Rattle.dates.specs.Impossible.Before.{by-year}
+use Rattle.dates.specs.Impossible.Unstamped.{impossible, too-early, too-late}
 use Rattle.dates.specs.Counting.{daysBefore, newYear, Counted, dayNumber}
-use Rattle.dates.specs.Stamps.{dayOf, stampDate}
-use Rattle.dates.specs.StampAnswer.{stampOf, Unstamped}
-use Rattle.dates.specs.StampAnswer.Unstamped.{impossible, too-early, too-late}
 use Rattle.dates.proofs.Days.{on-day}
 use Rattle.dates.proofs.Order.{rises, earlier-by, on-number}
 use Rattle.dates.proofs.Stamps.{day-from, day-to, day-stamp, number-of, one-stamp}
@@ -41,7 +39,7 @@ last-counted = omega arith
 
 -- ---- a date that has a stamp, and one that has none
 
-pub takes : (d : Date) → Stampable d → stampOf (d .year) (d .month) (d .day) ≡ At (dayNumber d % 16384)
+pub takes : (d : Date) → Stampable d → stampOf (d .year) (d .month) (d .day) ≡ stamped 0 (dayNumber d % 16384)
 unfolding stampOf
 takes d h =
     let n : ℕ = dayNumber d in
@@ -62,7 +60,7 @@ never-both d (impossible p) h = p (h .counted .possible)
 never-both d (too-early l) h = omega (arith, rises d (date 1997 1 2) (h .counted) first-counted l, first-number, h .from)
 never-both d (too-late l) h = omega (arith, rises (date 2041 11 10) d last-counted (h .counted) l, last-number, h .to)
 
-pub refuses : (d : Date) → Unstamped d → stampOf (d .year) (d .month) (d .day) ≡ Refused 29 0
+pub refuses : (d : Date) → Unstamped d → stampOf (d .year) (d .month) (d .day) ≡ stamped 29 0
 unfolding stampOf
 refuses d u = none d 16384 (λ t k e. never-both d u (subst Stampable e (stamps t k)))
 

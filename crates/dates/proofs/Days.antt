@@ -5,8 +5,8 @@ use Prim.Native.Nat.{ℕ, zero, suc, _+_, _-_, _≤_, _<_}
 use native.Mathlib.Omega.{arith}
 use native.Mathlib.Decide.{decLt}
 use borrow.Author.Tests.{lt-ltb, le-ltb}
-use Rattle.dates.specs.declared.answers.Date.{Date}
-use Rattle.dates.specs.Calendar.{date, monthDays, next, onDay}
+use Rattle.dates.specs.declared.calendar.Date.{Date}
+use Rattle.dates.specs.Calendar.{date, monthDays, dayAfter, onDay}
 use Rattle.dates.specs.Counting.{daysBefore, newYear, Counted, dayNumber}
 use Rattle.dates.proofs.Months.{before-next, before-first, month-least}
 use Rattle.dates.proofs.Years.{year-after}
@@ -37,8 +37,8 @@ module _ (d : Date) (h : Counted d) where
       ap newYear (omega arith) ∙ year-after (d .year - 1997) ∙ ap (λ (z : ℕ). newYear (d .year - 1997) + daysBefore z 13) y in
       record { counted = omega arith; later = omega (arith, a, before-first (d .year + 1), before-next (d .year) 12, ap (daysBefore (d .year)) m, ap (monthDays (d .year)) m) }
 
-  follows : Follows d (next d)
-  unfolding next
+  follows : Follows d (dayAfter d)
+  unfolding dayAfter
   follows =
       elim (decLt (d .day) (monthDays (d .year) (d .month))) [
         | yes l ↦ rw (lt-ltb _ _ l) (same-month l)

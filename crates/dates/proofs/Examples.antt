@@ -2,20 +2,16 @@
 -- Assumes nothing.
 use mathlib.Core.Path.{_≡_}
 use native.Mathlib.Omega.{arith}
-use Rattle.dates.specs.declared.answers.Dated.the-variants.{On}
-use Rattle.dates.specs.declared.answers.Stamped.the-variants.{At}
-use Rattle.dates.specs.Calendar.{date, leap, monthDays}
+use Rattle.dates.specs.Calendar.{date, leap, monthDays, dated, dateOf, stamped, stampOf}
 use Rattle.dates.specs.Counting.{daysBefore, newYear, dayNumber}
-use Rattle.dates.specs.DateAnswer.{dateOf}
-use Rattle.dates.specs.StampAnswer.{stampOf}
 use Rattle.dates.proofs.Bounds.{takes}
 use Rattle.dates.proofs.Undo.{undo}
 
 pub record Examples : Type 0 where
-  pub stamp-1 : dateOf 1 ≡ On (date 1997 1 2)
-  pub stamp-16383 : dateOf 16383 ≡ On (date 2041 11 9)
-  pub stamp-0 : dateOf 0 ≡ On (date 2041 11 10)
-  pub leap-day : stampOf 2000 2 29 ≡ At 1154
+  pub stamp-1 : dateOf 1 ≡ dated 0 (date 1997 1 2)
+  pub stamp-16383 : dateOf 16383 ≡ dated 0 (date 2041 11 9)
+  pub stamp-0 : dateOf 0 ≡ dated 0 (date 2041 11 10)
+  pub leap-day : stampOf 2000 2 29 ≡ stamped 0 1154
 
 pub examples : Examples
 unfolding dayNumber newYear daysBefore monthDays leap

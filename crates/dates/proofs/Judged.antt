@@ -6,23 +6,22 @@ use Prim.Native.Nat.{ℕ, _%_, _≤_}
 use native.Mathlib.Omega.{arith}
 use lib.Dec.{ltb}
 use borrow.Author.Tests.{ltb-true, ltb-false}
-use Rattle.dates.specs.declared.answers.Stamped.the-variants.{At, Refused}
-use Rattle.dates.specs.Calendar.{date, monthDays}
-use Rattle.dates.specs.Calendar.Before.{by-year}
+use Rattle.dates.specs.Calendar.{date, monthDays, stamped, stampOf}
+use Rattle.dates.specs.Impossible.{Unstamped}
+use Rattle.dates.specs.Impossible.Before.{by-year}
+use Rattle.dates.specs.Impossible.Unstamped.{impossible, too-early, too-late}
 use Rattle.dates.specs.Counting.{Counted, dayNumber}
-use Rattle.dates.specs.StampAnswer.{stampOf, Unstamped}
-use Rattle.dates.specs.StampAnswer.Unstamped.{impossible, too-early, too-late}
 use Rattle.dates.proofs.Joined.{either, neither}
 use Rattle.dates.proofs.Months.{has-days}
 use Rattle.dates.proofs.Bounds.{takes, refuses, early, late}
 
 module _ (y m d : ℕ) where
-  refused : Unstamped (date y m d) → Refused 29 0 ≡ stampOf y m d
+  refused : Unstamped (date y m d) → stamped 29 0 ≡ stampOf y m d
   refused u = sym (refuses (date y m d) u)
 
   -- the first test, of a year from a to b and a day from f to the month's last, k
   module _ (k : ℕ) (days : k ≡ monthDays y m) (a b f : ℕ) where
-    pub no-date : ltb y a || ltb b y || ltb d f || ltb k d ≡ true → (a ≤ 1997) × (2041 ≤ b) × (f ≤ 1) → Refused 29 0 ≡ stampOf y m d
+    pub no-date : ltb y a || ltb b y || ltb d f || ltb k d ≡ true → (a ≤ 1997) × (2041 ≤ b) × (f ≤ 1) → stamped 29 0 ≡ stampOf y m d
     no-date e h =
         refused
         (either (ltb y a || ltb b y || ltb d f) (ltb k d)
@@ -44,7 +43,7 @@ module _ (y m d : ℕ) where
 
   -- the second, of a number from a to b
   module _ (n : ℕ) (h : Counted (date y m d)) (number : n ≡ dayNumber (date y m d)) (a b : ℕ) where
-    pub no-stamp : ltb n a || ltb b n ≡ true → (a ≤ 1) × (16384 ≤ b) → Refused 29 0 ≡ stampOf y m d
+    pub no-stamp : ltb n a || ltb b n ≡ true → (a ≤ 1) × (16384 ≤ b) → stamped 29 0 ≡ stampOf y m d
     no-stamp e k =
         refused
         (either (ltb n a) (ltb b n)
@@ -52,7 +51,7 @@ module _ (y m d : ℕ) where
         (λ t. late (date y m d) h (omega (arith, ltb-true)))
         e)
 
-    pub stamped : ltb n a || ltb b n ≡ false → (1 ≤ a) × (b ≤ 16384) → At (n % 16384) ≡ stampOf y m d
-    stamped e k =
+    pub a-stamp : ltb n a || ltb b n ≡ false → (1 ≤ a) × (b ≤ 16384) → stamped 0 (n % 16384) ≡ stampOf y m d
+    a-stamp e k =
         let (u, v) = neither (ltb n a) (ltb b n) e in
         rw number (sym (takes (date y m d) (record { counted = h; from = omega (arith, ltb-false); to = omega (arith, ltb-false) })))

@@ -13,5 +13,4 @@ pub mod ReadOff
 pub mod Judged
 pub mod Exactly
 pub mod Undo
-pub mod Unique
 pub mod Examples

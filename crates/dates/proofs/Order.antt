@@ -5,9 +5,10 @@ use Prim.Native.Nat.{ℕ, zero, suc, _+_, _-_, _≤_, _<_}
 use native.Mathlib.Nat.{add-zero, add-suc}
 use native.Mathlib.Omega.{arith}
 use native.Mathlib.Decide.{decLt}
-use Rattle.dates.specs.declared.answers.Date.{Date}
-use Rattle.dates.specs.Calendar.{date, monthDays, Before, onDay}
-use Rattle.dates.specs.Calendar.Before.{by-year, by-month, by-day}
+use Rattle.dates.specs.declared.calendar.Date.{Date}
+use Rattle.dates.specs.Calendar.{date, monthDays, onDay}
+use Rattle.dates.specs.Impossible.{Before}
+use Rattle.dates.specs.Impossible.Before.{by-year, by-month, by-day}
 use Rattle.dates.specs.Counting.{daysBefore, newYear, Counted, dayNumber}
 use Rattle.dates.proofs.Months.{before-next}
 use Rattle.dates.proofs.Years.{year-after}

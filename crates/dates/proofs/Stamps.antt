@@ -5,10 +5,8 @@ use Prim.Native.Nat.{ℕ, zero, suc, _%_, _≤_, _<_}
 use native.Mathlib.Omega.{arith}
 use native.Mathlib.Decide.{ℕ-discrete}
 use borrow.Author.Tests.{lt-ltb, le-ltb}
-use Rattle.dates.specs.declared.answers.Dated.the-variants.{On, Refused}
+use Rattle.dates.specs.Calendar.{date, dayOf, stampDate, dated, dateOf}
 use Rattle.dates.specs.Counting.{dayNumber}
-use Rattle.dates.specs.Stamps.{dayOf, stampDate}
-use Rattle.dates.specs.DateAnswer.{dateOf}
 use Rattle.dates.proofs.Days.{number-on}
 
 pub day-itself : (s : ℕ) → 1 ≤ s → dayOf s ≡ s
@@ -45,8 +43,8 @@ one-stamp s t h k e = one-day s t h k (sym (number-of s) ∙ ap dayNumber e ∙ 
 
 -- ---- what `date` answers
 
-pub taken : (s : ℕ) → s ≤ 16383 → dateOf s ≡ On (stampDate s)
+pub taken : (s : ℕ) → s ≤ 16383 → dateOf s ≡ dated 0 (stampDate s)
 taken s h = rw (le-ltb 16383 s h)
 
-pub refused : (s : ℕ) → 16383 < s → dateOf s ≡ Refused 30 0
+pub refused : (s : ℕ) → 16383 < s → dateOf s ≡ dated 30 (date 0 0 0)
 refused s h = rw (lt-ltb 16383 s h)

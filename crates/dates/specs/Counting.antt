@@ -1,8 +1,9 @@
--- The number of a day by adding the days of the years and the months before it (document 01, "Dates"). Counting gives the same (proofs/Days).
+-- An annex: the number of a day by adding the days of the years and the months before it (document 01, "Dates"). Counting gives the same (proofs/Days).
 -- Assumes nothing.
 use Prim.Native.Nat.{ℕ, zero, suc, _+_, _-_, _≤_, _<_}
-use Rattle.dates.specs.declared.answers.Date.{Date}
-use Rattle.dates.specs.Calendar.{monthDays, Possible}
+use Rattle.dates.specs.declared.calendar.Date.{Date}
+use Rattle.dates.specs.Calendar.{monthDays}
+use Rattle.dates.specs.Impossible.{Possible}
 
 -- the days of a year in the months before m; before month 13, all of them
 unfoldable pub daysBefore : ℕ → ℕ → ℕ

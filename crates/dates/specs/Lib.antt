@@ -1,5 +1,3 @@
 pub mod Calendar
+pub mod Impossible
 pub mod Counting
-pub mod Stamps
-pub mod DateAnswer
-pub mod StampAnswer

@@ -3,7 +3,13 @@ ghost use mathlib.Core.Path.{_≡_};
 ghost use Prim.Native.Nat.{_-_, _≤_, _<_};
 ghost use Rattle.dates.specs.Calendar.{leap, monthDays, onDay};
 ghost use Rattle.dates.specs.Counting.{daysBefore, newYear, Counted, dayNumber, InYear, InMonth};
-use crate::answers::Date;
+
+// A date, possible or not.
+pub struct Date {
+    pub year: u64,
+    pub month: u64,
+    pub day: u64,
+}
 
 // The days of a common year before each month, and last all its days.
 const BEFORE: [u16; 13] = [0, 31, 59, 90, 120, 151, 181, 212, 243, 273, 304, 334, 365];

@@ -1,18 +1,31 @@
 // Date stamps and calendar dates, both ways (document 01, "Dates").
 ghost use mathlib.Core.Path.{_≡_};
-ghost use Rattle.dates.specs.Stamps.{dayOf};
-ghost use Rattle.dates.specs.DateAnswer.{dateOf};
-ghost use Rattle.dates.specs.StampAnswer.{stampOf};
+ghost use Rattle.dates.specs.Calendar.{dayOf, dateOf, stampOf};
 
-mod answers;
 mod calendar;
 
-pub use answers::Date;
-pub use answers::Dated;
-pub use answers::Stamped;
+use calendar::Date;
 use calendar::day_number;
 use calendar::month_days;
 use calendar::on_day;
+
+// The date of a stamp; zeros where refused.
+#[repr(C)]
+pub struct Dated {
+    pub number: usize,
+    pub entry: usize,
+    pub year: u64,
+    pub month: u64,
+    pub day: u64,
+}
+
+// The stamp of a date; 0 where refused.
+#[repr(C)]
+pub struct Stamped {
+    pub number: usize,
+    pub entry: usize,
+    pub stamp: u64,
+}
 
 // The day number of a stamp, counted from 1 January 1997.
 pub fn day(stamp: u64) -> u64
@@ -26,9 +39,22 @@ pub fn date(stamp: u64) -> Dated
     ensures { λ r. ⌜ r ≡ dateOf stamp ⌝ }
 {
     if 16383 < stamp {
-        return Dated::Refused(rules::NO_STAMP, 0);
+        return Dated {
+            number: rules::NO_STAMP,
+            entry: 0,
+            year: 0,
+            month: 0,
+            day: 0,
+        };
     }
-    Dated::On(on_day(day(stamp)))
+    let d = on_day(day(stamp));
+    Dated {
+        number: 0,
+        entry: 0,
+        year: d.year,
+        month: d.month,
+        day: d.day,
+    }
 }
 
 // The stamp of a calendar date.
@@ -36,11 +62,23 @@ pub fn stamp(year: u64, month: u64, day: u64) -> Stamped
     ensures { λ r. ⌜ r ≡ stampOf year month day ⌝ }
 {
     if (year < 1997) | (2041 < year) | (day < 1) | (month_days(year, month) < day) {
-        return Stamped::Refused(rules::NO_DATE, 0);
+        return Stamped {
+            number: rules::NO_DATE,
+            entry: 0,
+            stamp: 0,
+        };
     }
     let n = day_number(Date { year, month, day });
     if (n < 1) | (16384 < n) {
-        return Stamped::Refused(rules::NO_DATE, 0);
+        return Stamped {
+            number: rules::NO_DATE,
+            entry: 0,
+            stamp: 0,
+        };
     }
-    Stamped::At(n % 16384)
+    Stamped {
+        number: 0,
+        entry: 0,
+        stamp: n % 16384,
+    }
 }

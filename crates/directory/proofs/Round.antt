@@ -11,26 +11,26 @@ use Rattle.fields.specs.Fields.{fit}
 use Rattle.fields.specs.Lists as lists
 use Rattle.fields.proofs.Joined.{lists-joined}
 use Rattle.fields.proofs.Whole.{decode-encode, encode-decode, packed-exactly}
-use Rattle.directory.specs.Records.{entryBytes, entryOf, headBytes, headOf, tailBytes, tailOf}
+use Rattle.directory.specs.Records.{entryBytes, entryIn, headBytes, headIn, tailBytes, tailIn}
 
 -- decoding what was encoded gives the values back
-pub entry-back : (vs : List ℕ) → length vs ≡ 7 → Means (fit lists.entry vs) → entryOf (entryBytes vs .bytes) .values ≡ vs
+pub entry-back : (vs : List ℕ) → length vs ≡ 7 → Means (fit lists.entry vs) → entryIn (entryBytes vs .bytes) .values ≡ vs
 entry-back vs n m = decode-encode layout.Entry 5 (lists-joined layout.Entry) vs n m
 
-pub head-back : (vs : List ℕ) → length vs ≡ 3 → Means (fit lists.head vs) → headOf (headBytes vs .bytes) .values ≡ vs
+pub head-back : (vs : List ℕ) → length vs ≡ 3 → Means (fit lists.head vs) → headIn (headBytes vs .bytes) .values ≡ vs
 head-back vs n m = decode-encode layout.Head 2 (lists-joined layout.Head) vs n m
 
-pub tail-back : (vs : List ℕ) → length vs ≡ 4 → Means (fit lists.tail vs) → tailOf (tailBytes vs .bytes) .values ≡ vs
+pub tail-back : (vs : List ℕ) → length vs ≡ 4 → Means (fit lists.tail vs) → tailIn (tailBytes vs .bytes) .values ≡ vs
 tail-back vs n m = decode-encode layout.Tail 6 (lists-joined layout.Tail) vs n m
 
 -- encoding what was decoded gives the bytes back, always
-pub entry-again : (b : List ℕ) → Bytes b → length b ≡ 5 → entryBytes (entryOf b .values) ≡ record { number = 0; entry = 0; bytes = b }
+pub entry-again : (b : List ℕ) → Bytes b → length b ≡ 5 → entryBytes (entryIn b .values) ≡ record { number = 0; entry = 0; bytes = b }
 entry-again b h n = let e = encode-decode layout.Entry 5 (lists-joined layout.Entry) b h n in rw (e .1, e .0)
 
-pub head-again : (b : List ℕ) → Bytes b → length b ≡ 2 → headBytes (headOf b .values) ≡ record { number = 0; entry = 0; bytes = b }
+pub head-again : (b : List ℕ) → Bytes b → length b ≡ 2 → headBytes (headIn b .values) ≡ record { number = 0; entry = 0; bytes = b }
 head-again b h n = let e = encode-decode layout.Head 2 (lists-joined layout.Head) b h n in rw (e .1, e .0)
 
-pub tail-again : (b : List ℕ) → Bytes b → length b ≡ 6 → tailBytes (tailOf b .values) ≡ record { number = 0; entry = 0; bytes = b }
+pub tail-again : (b : List ℕ) → Bytes b → length b ≡ 6 → tailBytes (tailIn b .values) ≡ record { number = 0; entry = 0; bytes = b }
 tail-again b h n = let e = encode-decode layout.Tail 6 (lists-joined layout.Tail) b h n in rw (e .1, e .0)
 
 -- 0 exactly where every value fits, 26 exactly where one does not
@@ -42,7 +42,3 @@ head-exactly vs = packed-exactly layout.Head vs
 
 pub tail-exactly : (vs : List ℕ) → ((tailBytes vs .number ≡ 0) ↔ Means (fit lists.tail vs)) × ((tailBytes vs .number ≡ 26) ↔ (Means (fit lists.tail vs) → ⊥))
 tail-exactly vs = packed-exactly layout.Tail vs
-
--- an equation leaves one answer: of any call here whose contract is r ≡ a
-pub unique : {A : Type 0} {a r r′ : A} → r ≡ a → r′ ≡ a → r ≡ r′
-unique p q = p ∙ sym q

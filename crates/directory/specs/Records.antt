@@ -1,9 +1,10 @@
--- What the encoders and decoders of an entry and of the directory's two ends answer (document 01, "Directory sector" and "Encoding what was
+-- An annex: what the encoders and decoders of an entry and of the directory's two ends answer (document 01, "Directory sector" and "Encoding what was
 -- read"): each record is one list of fields that is all of its bytes. Assumes nothing.
 use Prim.Native.Nat.{ℕ}
 use mathlib.Core.List.{List}
 use Rattle.fields.specs.declared.Layout.the-variants as layout
-use Rattle.fields.specs.Fields.{fields, packNumber, packed}
+use Rattle.fields.specs.Fields.{fields}
+use Rattle.fields.specs.Packed.{packNumber, packed}
 use Rattle.fields.specs.Lists as lists
 use Rattle.directory.specs.declared.Entry.{Entry}
 use Rattle.directory.specs.declared.EntryBytes.{EntryBytes}
@@ -16,19 +17,19 @@ use Rattle.directory.specs.declared.TailBytes.{TailBytes}
 abbrev pub entryBytes : List ℕ → EntryBytes
 entryBytes vs = record { number = packNumber layout.Entry vs; entry = 0; bytes = packed layout.Entry 5 vs }
 
-abbrev pub entryOf : List ℕ → Entry
-entryOf b = record { values = fields b lists.entry }
+abbrev pub entryIn : List ℕ → Entry
+entryIn b = record { values = fields b lists.entry }
 
 -- the three leading values give two bytes
 abbrev pub headBytes : List ℕ → HeadBytes
 headBytes vs = record { number = packNumber layout.Head vs; entry = 0; bytes = packed layout.Head 2 vs }
 
-abbrev pub headOf : List ℕ → Head
-headOf b = record { values = fields b lists.head }
+abbrev pub headIn : List ℕ → Head
+headIn b = record { values = fields b lists.head }
 
 -- DIRS#, KID, INS# and ISAMID give six
 abbrev pub tailBytes : List ℕ → TailBytes
 tailBytes vs = record { number = packNumber layout.Tail vs; entry = 0; bytes = packed layout.Tail 6 vs }
 
-abbrev pub tailOf : List ℕ → Tail
-tailOf b = record { values = fields b lists.tail }
+abbrev pub tailIn : List ℕ → Tail
+tailIn b = record { values = fields b lists.tail }

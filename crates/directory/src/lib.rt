@@ -1,7 +1,7 @@
 // The directory's entries and its two ends, between values and bytes. Its chain table is crate table's.
 use fields::Layout;
 ghost use mathlib.Core.Path.{_≡_};
-ghost use Rattle.directory.specs.Records.{entryBytes, entryOf, headBytes, headOf, tailBytes, tailOf};
+ghost use Rattle.directory.specs.Records.{entryBytes, entryIn, headBytes, headIn, tailBytes, tailIn};
 
 // EF, OID, TYP, PTYP, VGP, IINL, EXP.
 #[repr(C)]
@@ -57,7 +57,7 @@ pub fn encode_entry(values: [u64; 7]) -> EntryBytes
 
 // The values that the five bytes hold.
 pub fn decode_entry(bytes: [u8; 5]) -> Entry
-    ensures { λ r. ⌜ r ≡ entryOf bytes ⌝ }
+    ensures { λ r. ⌜ r ≡ entryIn bytes ⌝ }
 {
     let mut values = [0u64; 7];
     fields::read(&bytes, Layout::Entry, &mut values);
@@ -79,7 +79,7 @@ pub fn encode_head(values: [u64; 3]) -> HeadBytes
 
 // The values that the two bytes hold.
 pub fn decode_head(bytes: [u8; 2]) -> Head
-    ensures { λ r. ⌜ r ≡ headOf bytes ⌝ }
+    ensures { λ r. ⌜ r ≡ headIn bytes ⌝ }
 {
     let mut values = [0u64; 3];
     fields::read(&bytes, Layout::Head, &mut values);
@@ -101,7 +101,7 @@ pub fn encode_tail(values: [u64; 4]) -> TailBytes
 
 // The values that the six bytes hold.
 pub fn decode_tail(bytes: [u8; 6]) -> Tail
-    ensures { λ r. ⌜ r ≡ tailOf bytes ⌝ }
+    ensures { λ r. ⌜ r ≡ tailIn bytes ⌝ }
 {
     let mut values = [0u64; 4];
     fields::read(&bytes, Layout::Tail, &mut values);

@@ -14,8 +14,10 @@ use borrow.Author.Tests.{lt-ltb, le-ltb}
 use Rattle.bits.specs.Bits.{Bytes, bit, field, store}
 use Rattle.bits.proofs.Laws.{lt-or-le, bit-past, ext, digit-field, field-lt, field-store, field-store-apart, store-field, length-store, bytes-store, bit-store-in, bit-store-out}
 use Rattle.fields.specs.declared.Span.{Span}
-use Rattle.fields.specs.Lists.{joined, nth}
-use Rattle.fields.specs.Fields.{fields, stores, limitOf, limits, above, lowest}
+use Rattle.fields.specs.Ends.{endToEnd}
+use Rattle.fields.specs.Lists.{nth}
+use Rattle.fields.specs.Fields.{fields, stores, limitOf, limits}
+use Rattle.fields.specs.Packed.{above, firstAbove}
 use Rattle.fields.specs.Together.{Fit}
 use Rattle.fields.proofs.Joined.{head-of, tail-of, nil-of, ends, within, ordered}
 
@@ -66,7 +68,7 @@ bytes-stores l (p ∷ ps) (v ∷ vs) b = bytes-stores (store l (p .0) (p .1) v) 
 -- ---- over any list that meets end to end
 
 -- no bit outside the list changes
-pub bit-stores-out : (a : ℕ) (ps : List Span) (e : ℕ) → T (joined a ps e) → (l vs : List ℕ) (i : ℕ) → (i < a) ⊎ (e ≤ i)
+pub bit-stores-out : (a : ℕ) (ps : List Span) (e : ℕ) → T (endToEnd a ps e) → (l vs : List ℕ) (i : ℕ) → (i < a) ⊎ (e ≤ i)
     → bit (stores l ps vs) i ≡ bit l i
 unfolding stores
 bit-stores-out a [] e t l vs i o = refl
@@ -78,7 +80,7 @@ bit-stores-out a (p ∷ ps) e t l (v ∷ vs) i o =
     ∙ bit-store-out l (p .0) (p .1) v i (⊎-elim (λ h. inl (omega arith)) (λ h. inr (omega arith)) o)
 
 -- a field before the list stays
-pub field-before : (a : ℕ) (ps : List Span) (e : ℕ) → T (joined a ps e) → (l vs : List ℕ) (q u : ℕ) → q + u ≤ a
+pub field-before : (a : ℕ) (ps : List Span) (e : ℕ) → T (endToEnd a ps e) → (l vs : List ℕ) (q u : ℕ) → q + u ≤ a
     → field (stores l ps vs) q u ≡ field l q u
 unfolding stores
 field-before a [] e t l vs q u h = refl
@@ -92,7 +94,7 @@ fit-tail : (p : Span) (ps : List Span) (v : ℕ) (vs : List ℕ) → Fit (p ∷ 
 fit-tail p ps v vs f = record { many = omega (arith, f .many); low = λ i h. f .low (suc i) (omega arith) }
 
 -- what is stored is read
-pub fields-stores : (a : ℕ) (ps : List Span) (e : ℕ) → T (joined a ps e) → (l vs : List ℕ) → e ≤ 8 * length l → Fit ps vs
+pub fields-stores : (a : ℕ) (ps : List Span) (e : ℕ) → T (endToEnd a ps e) → (l vs : List ℕ) → e ≤ 8 * length l → Fit ps vs
     → fields (stores l ps vs) ps ≡ vs
 unfolding fields stores
 fields-stores a [] e t l [] h f = refl
@@ -117,7 +119,7 @@ stores-fields l (p ∷ ps) b =
     ap (λ (z : List ℕ). stores z ps (fields l ps)) (store-field l (p .0) (p .1) b) ∙ stores-fields l ps b
 
 -- what is read of l, stored into m that has l's bits outside the list, is l
-pub stores-onto : (a : ℕ) (ps : List Span) (e : ℕ) → T (joined a ps e) → (m l : List ℕ) → Bytes m → Bytes l → length m ≡ length l
+pub stores-onto : (a : ℕ) (ps : List Span) (e : ℕ) → T (endToEnd a ps e) → (m l : List ℕ) → Bytes m → Bytes l → length m ≡ length l
     → e ≤ 8 * length l → ((i : ℕ) → (i < a) ⊎ (e ≤ i) → bit m i ≡ bit l i) → stores m ps (fields l ps) ≡ l
 unfolding fields stores
 stores-onto a [] e t m l bm bl n h o =
@@ -138,14 +140,14 @@ stores-onto a (p ∷ ps) e t m l bm bl n h o =
     (λ y. bit-store-out m (p .0) (p .1) x i (inr (omega arith)) ∙ o i (inr y)) z)
 
 -- the field j once the field i is stored
-pub others-kept : (a : ℕ) (ps : List Span) (e : ℕ) → T (joined a ps e) → (l : List ℕ) (v i j : ℕ) → i < length ps → j < length ps → (j ≡ i → ⊥)
+pub others-kept : (a : ℕ) (ps : List Span) (e : ℕ) → T (endToEnd a ps e) → (l : List ℕ) (v i j : ℕ) → i < length ps → j < length ps → (j ≡ i → ⊥)
     → field (store l (nth ps i .0) (nth ps i .1) v) (nth ps j .0) (nth ps j .1) ≡ field l (nth ps j .0) (nth ps j .1)
 others-kept a ps e t l v i j h k ne =
     field-store-apart l (nth ps i .0) (nth ps i .1) v (nth ps j .0) (nth ps j .1)
     (⊎-elim (λ z. inr (ordered a ps e t j i z h)) (λ z. inl (ordered a ps e t i j (omega arith) k)) (lt-or-le j i))
 
 -- a field stored is a value set
-pub fields-store : (a : ℕ) (ps : List Span) (e : ℕ) → T (joined a ps e) → (l : List ℕ) (v i : ℕ) → i < length ps → e ≤ 8 * length l
+pub fields-store : (a : ℕ) (ps : List Span) (e : ℕ) → T (endToEnd a ps e) → (l : List ℕ) (v i : ℕ) → i < length ps → e ≤ 8 * length l
     → v ≤ limitOf (nth ps i) → fields (store l (nth ps i .0) (nth ps i .1) v) ps ≡ set (fields l ps) i v
 fields-store a ps e t l v i h r g =
     let m = store l (nth ps i .0) (nth ps i .1) v in
@@ -219,14 +221,14 @@ above-found (m ∷ ms) (v ∷ vs) n e =
     (lt-or-le m v)
 
 -- the lowest is 0 exactly if every value is within its limit
-pub lowest-none : (ms vs : List ℕ) → length ms ≡ length vs → lowest ms vs ≡ 0 → AllLow ms vs
+pub lowest-none : (ms vs : List ℕ) → length ms ≡ length vs → firstAbove ms vs ≡ 0 → AllLow ms vs
 lowest-none ms vs e z = out z (above-found ms vs 0 e)
   where
     out : {r : ℕ} → r ≡ 0 → Found ms vs 0 r → AllLow ms vs
     out q (none a) = a
     out q (at k f) = absurd (omega arith)
 
-pub none-lowest : (ms vs : List ℕ) → length ms ≡ length vs → AllLow ms vs → lowest ms vs ≡ 0
+pub none-lowest : (ms vs : List ℕ) → length ms ≡ length vs → AllLow ms vs → firstAbove ms vs ≡ 0
 none-lowest ms vs e a = out (above-found ms vs 0 e)
   where
     out : {r : ℕ} → Found ms vs 0 r → r ≡ 0
@@ -234,7 +236,7 @@ none-lowest ms vs e a = out (above-found ms vs 0 e)
     out (at k f) = absurd (omega (arith, a k (f .inside), f .over))
 
 -- and n + 1 only if the value n is the first above
-pub lowest-first : (ms vs : List ℕ) (n : ℕ) → length ms ≡ length vs → lowest ms vs ≡ suc n → First ms vs n
+pub lowest-first : (ms vs : List ℕ) (n : ℕ) → length ms ≡ length vs → firstAbove ms vs ≡ suc n → First ms vs n
 lowest-first ms vs n e z = out z (above-found ms vs 0 e)
   where
     out : {r : ℕ} → r ≡ suc n → Found ms vs 0 r → First ms vs n
@@ -242,7 +244,7 @@ lowest-first ms vs n e z = out z (above-found ms vs 0 e)
     out q (at k f) = let i : n ≡ k = omega arith in rw i f
 
 -- a list that is all of the bytes
-pub stores-whole : (ps : List Span) (m l : List ℕ) → T (joined 0 ps (8 * length l)) → Bytes m → Bytes l → length m ≡ length l → stores m ps (fields l ps) ≡ l
+pub stores-whole : (ps : List Span) (m l : List ℕ) → T (endToEnd 0 ps (8 * length l)) → Bytes m → Bytes l → length m ≡ length l → stores m ps (fields l ps) ≡ l
 stores-whole ps m l t bm bl n =
     stores-onto 0 ps (8 * length l) t m l bm bl n (omega arith)
     (λ i o. ⊎-elim (λ h. absurd (not-suc-le-zero h)) (λ h. bit-past m i (omega arith) ∙ sym (bit-past l i h)) o)

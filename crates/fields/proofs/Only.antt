@@ -6,12 +6,11 @@ use Prim.Native.Nat.{ℕ, _+_, _*_, _≤_}
 use native.Mathlib.Omega.{arith}
 use lib.Dec.{T}
 use lib.ListN.{length, take, drop, length-take, length-drop}
-use Rattle.bits.specs.Bits.{Bytes, bit, field, store}
-use Rattle.bits.proofs.Laws.{Outside, Apart, ext, field-cong, bit-part, bit-store-out, store-comm, bytes-take, bytes-drop}
+use Rattle.bits.specs.Bits.{Bytes, bit, field, store, Outside}
+use Rattle.bits.proofs.Laws.{Apart, ext, field-cong, bit-part, bit-store-out, store-comm, bytes-take, bytes-drop}
 use Rattle.fields.specs.declared.Span.{Span}
-use Rattle.fields.specs.Lists.{joined}
-use Rattle.fields.specs.Fields.{stores}
-use Rattle.fields.specs.Shifted.{shifted}
+use Rattle.fields.specs.Ends.{endToEnd}
+use Rattle.fields.specs.Fields.{stores, shifted}
 use Rattle.fields.proofs.Joined.{head-of, tail-of, ends}
 use Rattle.fields.proofs.Laws.{length-stores, bytes-stores}
 
@@ -21,7 +20,7 @@ Inside a n [] = Unit {0}
 Inside a n (p ∷ ps) = ((a ≤ p .0) × (p .0 + p .1 ≤ a + n)) × Inside a n ps
 
 -- places that meet end to end lie between their ends
-pub joined-inside : (a : ℕ) (ps : List Span) (e : ℕ) → T (joined a ps e) → (b n : ℕ) → b ≤ a → e ≤ b + n → Inside b n ps
+pub joined-inside : (a : ℕ) (ps : List Span) (e : ℕ) → T (endToEnd a ps e) → (b n : ℕ) → b ≤ a → e ≤ b + n → Inside b n ps
 joined-inside a [] e t b n h k = tt
 joined-inside a (p ∷ ps) e t b n h k =
     let s = head-of a p ps e t in

@@ -9,10 +9,9 @@ use lib.Seq.{take-at, drop-at, length-take-le}
 use Rattle.bits.specs.Bits.{Bytes, store}
 use Rattle.bits.proofs.Laws.{length-store, bytes-store, store-part, field-cong, bit-append-left, store-append-left}
 use Rattle.fields.specs.declared.Span.{Span}
-use Rattle.fields.specs.Lists.{joined}
-use Rattle.fields.specs.Fields.{fields, stores}
+use Rattle.fields.specs.Ends.{endToEnd}
+use Rattle.fields.specs.Fields.{fields, stores, shifted}
 use Rattle.fields.specs.Together.{Fit}
-use Rattle.fields.specs.Shifted.{shifted}
 use Rattle.fields.proofs.Laws.{length-stores, bytes-stores, fields-stores, stores-fields}
 use Rattle.fields.proofs.Only.{Inside}
 
@@ -74,7 +73,7 @@ fields-left x y (p ∷ ps) k =
     (field-cong (x ++ y) x (p .0) (p .0) (p .1) (λ i u. bit-append-left x y (p .0 + i) (omega (arith, k .0)))) (fields-left x y ps (k .1))
 
 -- values that are stored already are stored again to no effect
-pub stores-again : (a : ℕ) (ps : List Span) (e : ℕ) → T (joined a ps e) → (l vs : List ℕ) → Bytes l → e ≤ 8 * length l → Fit ps vs
+pub stores-again : (a : ℕ) (ps : List Span) (e : ℕ) → T (endToEnd a ps e) → (l vs : List ℕ) → Bytes l → e ≤ 8 * length l → Fit ps vs
     → stores (stores l ps vs) ps vs ≡ stores l ps vs
 stores-again a ps e t l vs b h f =
     ap (λ (z : List ℕ). stores (stores l ps vs) ps z) (sym (fields-stores a ps e t l vs h f)) ∙ stores-fields (stores l ps vs) ps (bytes-stores l ps vs b)

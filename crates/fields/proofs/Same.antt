@@ -9,11 +9,11 @@ use lib.ListN.{take}
 use Rattle.bits.specs.Bits.{bit}
 use Rattle.bits.proofs.Laws.{field-cong, bit-part}
 use Rattle.fields.specs.declared.Span.{Span}
-use Rattle.fields.specs.Lists.{joined}
+use Rattle.fields.specs.Ends.{endToEnd}
 use Rattle.fields.specs.Fields.{fields}
 use Rattle.fields.proofs.Joined.{head-of, tail-of, ends}
 
-pub fields-same : (a : ℕ) (ps : List Span) (e : ℕ) → T (joined a ps e) → (l m : List ℕ) → ((i : ℕ) → a ≤ i → i < e → bit l i ≡ bit m i)
+pub fields-same : (a : ℕ) (ps : List Span) (e : ℕ) → T (endToEnd a ps e) → (l m : List ℕ) → ((i : ℕ) → a ≤ i → i < e → bit l i ≡ bit m i)
     → fields l ps ≡ fields m ps
 unfolding fields
 fields-same a [] e t l m h = refl
@@ -26,5 +26,5 @@ fields-same a (p ∷ ps) e t l m h =
     (fields-same (a + p .1) ps e u l m (λ i x y. h i (omega arith) y))
 
 -- the first n bytes have the values of a list that ends in them
-pub fields-front : (a : ℕ) (ps : List Span) (e : ℕ) → T (joined a ps e) → (l : List ℕ) (n : ℕ) → e ≤ 8 * n → fields (take n l) ps ≡ fields l ps
+pub fields-front : (a : ℕ) (ps : List Span) (e : ℕ) → T (endToEnd a ps e) → (l : List ℕ) (n : ℕ) → e ≤ 8 * n → fields (take n l) ps ≡ fields l ps
 fields-front a ps e t l n h = fields-same a ps e t (take n l) l (λ i x y. bit-part l 0 n i (omega arith) ∙ ap (bit l) (omega arith))

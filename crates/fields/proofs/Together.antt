@@ -14,7 +14,8 @@ use lib.Pow.{pow-add, pow-mono}
 use Rattle.bits.specs.Bits.{Bytes, field, store}
 use Rattle.bits.proofs.Laws.{lt-or-le, digit-field, bit-store-out, field-add, field-store, field-store-apart, field-zero, store-field, store-is, length-store, bytes-store}
 use Rattle.fields.specs.declared.Span.{Span}
-use Rattle.fields.specs.Lists.{joined, nth}
+use Rattle.fields.specs.Ends.{endToEnd}
+use Rattle.fields.specs.Lists.{nth}
 use Rattle.fields.specs.Fields.{stores}
 use Rattle.fields.specs.Together.{Fit, wide, together}
 use Rattle.fields.proofs.Joined.{head-of, tail-of, within}
@@ -47,7 +48,7 @@ store-joined l p w u x v h hx hv =
         (field-store a (p + w) u v (omega (arith, n)) hv)
 
 -- each place starts where the one before ends
-meets : (a : ℕ) (ps : List Span) (e : ℕ) → T (joined a ps e) → (i : ℕ) → suc i < length ps → nth ps (suc i) .0 ≡ nth ps i .0 + nth ps i .1
+meets : (a : ℕ) (ps : List Span) (e : ℕ) → T (endToEnd a ps e) → (i : ℕ) → suc i < length ps → nth ps (suc i) .0 ≡ nth ps i .0 + nth ps i .1
 meets a [] e t i h = absurd (not-suc-le-zero h)
 meets a (p ∷ []) e t i h = absurd (omega arith)
 meets a (p ∷ q ∷ ps) e t zero h = omega (arith, head-of a p (q ∷ ps) e t, head-of (a + p .1) q ps e (tail-of a p (q ∷ ps) e t))
@@ -72,7 +73,7 @@ wide-mono ps i (suc k) (suc n) h =
     same : k ≡ n → wide ps i (suc k) ≤ wide ps i (suc n)
     same q = rw q (omega arith)
 
-module _ (a : ℕ) (ps : List Span) (e : ℕ) (t : T (joined a ps e)) where
+module _ (a : ℕ) (ps : List Span) (e : ℕ) (t : T (endToEnd a ps e)) where
   place-of : (i n : ℕ) → i + n < length ps → nth ps (i + n) .0 ≡ nth ps i .0 + wide ps i n
   unfolding wide
   place-of i zero h = rw (add-zero i) (omega arith)

@@ -1,21 +1,25 @@
 -- A record whose list is all of its bytes: decoding and encoding undo each other, and what is refused is what the rule says, over any such
 -- list, since `packNumber` is 0 exactly where every value fits. Assumes nothing.
 use mathlib.Core.Path.{_≡_, refl, sym, ap, _∙_}
-use mathlib.Core.Logic.{_↔_}
+use mathlib.Core.Logic.{_↔_, _≢_}
 use mathlib.Core.Bool.{Bool, true, false}
 use mathlib.Core.List.{List}
-use Prim.Native.Nat.{ℕ, _*_}
+use Prim.Native.Nat.{ℕ, zero, suc, _*_}
 use native.Mathlib.Omega.{arith}
 use lib.ListN.{length, replicate, length-replicate}
 use lib.Dec.{T}
 use Rattle.bits.specs.Bits.{Bytes}
 use Rattle.bits.proofs.Zeros.{bytes-zeros}
-use Rattle.rules.specs.Claim.{Means, holds, first}
+use Rattle.rules.specs.Claim.{Means, Answers}
+use Rattle.rules.specs.First.{holds, first}
 use Rattle.rules.proofs.ClaimLaws.{holds-means, means-holds}
+use Rattle.rules.proofs.First.{answers-exactly}
 use Rattle.fields.specs.declared.Layout.{Layout}
 use Rattle.fields.specs.declared.Span.{Span}
-use Rattle.fields.specs.Lists.{listOf, joined}
-use Rattle.fields.specs.Fields.{fields, stores, storesIf, fit, packNumber, packed}
+use Rattle.fields.specs.Lists.{listOf}
+use Rattle.fields.specs.Ends.{endToEnd}
+use Rattle.fields.specs.Fields.{fields, stores, fit, packRules}
+use Rattle.fields.specs.Packed.{storesIf, packNumber, packed}
 use Rattle.fields.proofs.Laws.{fields-stores, stores-whole, fit-fields}
 
 -- every value fits: 0; one does not: 26
@@ -49,17 +53,24 @@ packed-exactly k vs = (
 stored : (n : ℕ) (l : List ℕ) (ps : List Span) (vs : List ℕ) → n ≡ 0 → storesIf n l ps vs ≡ stores l ps vs
 stored n l ps vs e = rw e
 
-kept : (n : ℕ) (l : List ℕ) (ps : List Span) (vs : List ℕ) → n ≡ 26 → storesIf n l ps vs ≡ l
-kept n l ps vs e = rw e
+-- the number, as an encoder gives it: with entry 0
+pub pack-exactly : (k : Layout) (vs : List ℕ) (n e : ℕ) → ((packNumber k vs ≡ n) × (0 ≡ e)) ↔ Answers (packRules k vs) n e
+unfolding packNumber
+pack-exactly k vs = answers-exactly (packRules k vs) (omega arith, tt)
 
-pub packed-zeros : (k : Layout) (n : ℕ) (vs : List ℕ) → (Means (fit (listOf k) vs) → ⊥) → packed k n vs ≡ replicate n 0
-packed-zeros k n vs bad = kept (packNumber k vs) (replicate n 0) (listOf k) vs (refused-wide k vs bad)
+-- refused, the bytes are zeros
+pub packed-zeros : (k : Layout) (n : ℕ) (vs : List ℕ) → packNumber k vs ≢ 0 → packed k n vs ≡ replicate n 0
+packed-zeros k n vs h = go (packNumber k vs) h
+  where
+    go : (m : ℕ) → m ≢ 0 → storesIf m (replicate n 0) (listOf k) vs ≡ replicate n 0
+    go zero h = absurd (h refl)
+    go (suc m) h = refl
 
 -- what is read fits
 pub fields-fit : (l : List ℕ) (ps : List Span) → Means (fit ps (fields l ps))
 fields-fit l ps = fit-fields l ps .low
 
-module _ (k : Layout) (n : ℕ) (t : T (joined 0 (listOf k) (8 * n))) where
+module _ (k : Layout) (n : ℕ) (t : T (endToEnd 0 (listOf k) (8 * n))) where
   -- decoding what was encoded gives the values back
   pub decode-encode : (vs : List ℕ) → length vs ≡ length (listOf k) → Means (fit (listOf k) vs) → fields (packed k n vs) (listOf k) ≡ vs
   decode-encode vs e m =
@@ -70,7 +81,7 @@ module _ (k : Layout) (n : ℕ) (t : T (joined 0 (listOf k) (8 * n))) where
   pub encode-decode : (b : List ℕ) → Bytes b → length b ≡ n → (packNumber k (fields b (listOf k)) ≡ 0) × (packed k n (fields b (listOf k)) ≡ b)
   encode-decode b h e =
       let z = taken-fit k (fields b (listOf k)) (fields-fit b (listOf k)) in
-      let u : T (joined 0 (listOf k) (8 * length b)) = rw e t in (
+      let u : T (endToEnd 0 (listOf k) (8 * length b)) = rw e t in (
         z,
         stored (packNumber k (fields b (listOf k))) (replicate n 0) (listOf k) (fields b (listOf k)) z
             ∙ stores-whole (listOf k) (replicate n 0) b u (bytes-zeros n) h (length-replicate {A = ℕ} n 0 ∙ sym e),

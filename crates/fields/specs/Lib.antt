@@ -1,4 +1,5 @@
-pub mod Fields
 pub mod Lists
-pub mod Shifted
+pub mod Fields
+pub mod Ends
+pub mod Packed
 pub mod Together

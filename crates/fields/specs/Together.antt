@@ -1,4 +1,4 @@
--- Values that fit their places, and neighbouring fields as one number: each value behind the digits of those before it. Assumes nothing.
+-- An annex: values that fit their places, and neighbouring fields as one number: each value behind the digits of those before it. Assumes nothing.
 use mathlib.Core.Path.{_≡_}
 use Prim.Native.Nat.{ℕ, zero, suc, _+_, _*_, _^_, _≤_, _<_}
 use mathlib.Core.List.{List}

@@ -4,9 +4,10 @@ ghost use Prim.Native.Nat.{_+_, _*_, _<_, _≤_};
 ghost use lib.ListN.{length, replicate};
 ghost use Rattle.bits.specs.Bits.{field, store};
 ghost use Rattle.fields.specs.Lists as lists;
-ghost use Rattle.fields.specs.Lists.{listOf, endOf, nth};
-ghost use Rattle.rules.specs.Claim.{holds};
-ghost use Rattle.fields.specs.Fields.{at, fields, stores, limitOf, fit, packNumber, packIn};
+ghost use Rattle.fields.specs.Lists.{listOf, bitAfter, nth};
+ghost use Rattle.rules.specs.First.{holds};
+ghost use Rattle.fields.specs.Fields.{at, fields, stores, limitOf, fit};
+ghost use Rattle.fields.specs.Packed.{packNumber, packIn};
 
 // The first bit and the width of a field.
 pub struct Span(pub u16, pub u16);
@@ -180,7 +181,7 @@ pub fn at(s: &[u8], p: Span) -> u64
 
 // The value of the field i.
 pub fn value(s: &[u8], k: Layout, i: usize) -> u64
-    requires { ⌜ (i < length (listOf k)) × (endOf k ≤ 8 * length (now s)) ⌝ }
+    requires { ⌜ (i < length (listOf k)) × (bitAfter k ≤ 8 * length (now s)) ⌝ }
     ensures { λ r. ⌜ r ≡ field (now (s .entry)) (nth (listOf k) i .0) (nth (listOf k) i .1) ⌝ }
 {
     at(s, place(k, i))
@@ -188,7 +189,7 @@ pub fn value(s: &[u8], k: Layout, i: usize) -> u64
 
 // Stores the low digits of a value in the field i.
 pub fn store_at(s: &mut [u8], k: Layout, i: usize, v: u64)
-    requires { ⌜ (i < length (listOf k)) × (endOf k ≤ 8 * length (now s)) ⌝ }
+    requires { ⌜ (i < length (listOf k)) × (bitAfter k ≤ 8 * length (now s)) ⌝ }
     ensures { λ _. ⌜ now (s .exit) ≡ store (now (s .entry)) (nth (listOf k) i .0) (nth (listOf k) i .1) v ⌝ }
 {
     let q = place(k, i);
@@ -213,7 +214,7 @@ fn limit(k: Layout, i: usize) -> u64
 
 // The values of the whole list.
 pub fn read(s: &[u8], k: Layout, out: &mut [u64])
-    requires { ⌜ (length (now out) ≡ length (listOf k)) × (endOf k ≤ 8 * length (now s)) ⌝ }
+    requires { ⌜ (length (now out) ≡ length (listOf k)) × (bitAfter k ≤ 8 * length (now s)) ⌝ }
     ensures { λ _. ⌜ now (out .exit) ≡ fields (now (s .entry)) (listOf k) ⌝ }
 {
     let n = count(k);
@@ -226,7 +227,7 @@ pub fn read(s: &[u8], k: Layout, out: &mut [u64])
 
 // Stores the values of the whole list.
 pub fn write(s: &mut [u8], k: Layout, values: &[u64])
-    requires { ⌜ (length (now values) ≡ length (listOf k)) × (endOf k ≤ 8 * length (now s)) ⌝ }
+    requires { ⌜ (length (now values) ≡ length (listOf k)) × (bitAfter k ≤ 8 * length (now s)) ⌝ }
     ensures { λ _. ⌜ now (s .exit) ≡ stores (now (s .entry)) (listOf k) (now (values .entry)) ⌝ }
 {
     let n = count(k);
@@ -265,7 +266,7 @@ pub fn all_fit(k: Layout, values: &[u64]) -> bool
 
 // Stores the values of the whole list where none is too wide: 0; else 26, and nothing is stored.
 pub fn pack(k: Layout, values: &[u64], out: &mut [u8]) -> usize
-    requires { ⌜ (length (now values) ≡ length (listOf k)) × (endOf k ≤ 8 * length (now out)) ⌝ }
+    requires { ⌜ (length (now values) ≡ length (listOf k)) × (bitAfter k ≤ 8 * length (now out)) ⌝ }
     ensures { λ r. ⌜ (r ≡ packNumber k (now (values .entry))) × (now (out .exit) ≡ packIn k (now (values .entry)) (now (out .entry))) ⌝ }
 {
     if all_fit(k, values) {

@@ -5,35 +5,37 @@ use mathlib.Core.List.{List}
 use Prim.Native.Nat.{ℕ, zero, suc}
 use native.Mathlib.Omega.{arith}
 use Rattle.image.specs.Bounds.{Bounds}
-use Rattle.image.specs.Obeys.{Obeys}
-use Rattle.image.specs.Rules.{verdict}
-use Rattle.image.specs.Shape.{shapeOf, Shaped}
-use Rattle.image.specs.Answer.{answer, checkOf}
+use Rattle.image.specs.Facts.{Facts}
+use Rattle.image.specs.Verdict.{verdict}
+use Rattle.image.specs.Check.{shapeOf, checkedBy, checkOf}
+use Rattle.image.specs.Shape.{Shaped}
 use Rattle.image.specs.declared.Shape.{Shape}
 use Rattle.image.specs.declared.Checked.the-variants.{Accepted, Refused}
 use Rattle.image.proofs.Exact as exact
 use Rattle.image.proofs.Exact.{accepts}
 use Rattle.image.proofs.Shapes.{shaped}
 
-pub obeys-bounds : (c : List ℕ) → Obeys c → Bounds c
-obeys-bounds = exact.obeys-bounds
+pub facts-bounds : (c : List ℕ) → Facts c → Bounds c
+facts-bounds = exact.facts-bounds
 
 -- what is known where a check has accepted with the shape g
 pub record Open (c : List ℕ) (g : Shape) : Type 0 where
-  pub obeys : Obeys c
+  pub obeys : Facts c
   pub number-zero : verdict c .number ≡ 0
   pub shape-is : g ≡ shapeOf c
   pub shape : Shaped c g
+
+pub opened : (c : List ℕ) → verdict c .number ≡ 0 → Open c (shapeOf c)
+opened c z =
+    let o = accepts c .0 z in
+    record { obeys = o; number-zero = z; shape-is = refl; shape = shaped c (facts-bounds c o) }
 
 pub accepted-open : (c : List ℕ) (g : Shape) → checkOf c ≡ Accepted g → Open c g
 unfolding checkOf
 accepted-open c g e = go (verdict c .number) refl e
   where
-    go : (n : ℕ) → verdict c .number ≡ n → answer n (verdict c .entry) (shapeOf c) ≡ Accepted g → Open c g
-    go zero z q =
-        let o = accepts c .0 z in
-        let s : g ≡ shapeOf c = cc in
-        record { obeys = o; number-zero = z; shape-is = s; shape = rw s (shaped c (obeys-bounds c o)) }
+    go : (n : ℕ) → verdict c .number ≡ n → checkedBy n (verdict c .entry) (shapeOf c) ≡ Accepted g → Open c g
+    go zero z q = let s : g ≡ shapeOf c = cc in rw s (opened c z)
     go (suc n) z q = absurd (let w : _≡_ {A = ℕ} 0 1 = cc in omega arith)
 
 -- what is known where it has refused
@@ -46,7 +48,7 @@ pub refused-shut : (c : List ℕ) (n e : ℕ) → checkOf c ≡ Refused n e → 
 unfolding checkOf
 refused-shut c n e q = go (verdict c .number) refl q
   where
-    go : (m : ℕ) → verdict c .number ≡ m → answer m (verdict c .entry) (shapeOf c) ≡ Refused n e → Shut c n e
+    go : (m : ℕ) → verdict c .number ≡ m → checkedBy m (verdict c .entry) (shapeOf c) ≡ Refused n e → Shut c n e
     go zero z w = absurd (let y : _≡_ {A = ℕ} 0 1 = cc in omega arith)
     go (suc m) z w =
         let i : suc m ≡ n = cc in

@@ -8,14 +8,14 @@ use lib.ListN.{getD, set}
 use native.Mathlib.Omega.{arith}
 use Rattle.rules.specs.Lowest.{lowest}
 use Rattle.rules.proofs.LowestLaws.{lowest-here, lowest-none, none-lowest}
-use Rattle.chains.specs.Chain.{walk}
+use Rattle.chains.specs.Walk.{walk}
 use Rattle.chains.specs.Packed.{lastLeft, lastTold, leftTold}
 use Rattle.chains.specs.Owners.{stop, follow}
 use Rattle.chains.proofs.ProductLaws as laws
 use Rattle.chains.proofs.Owners as second
 use Rattle.chains.proofs.Pass as first
-use Rattle.image.specs.Image.{S, e#, isProduct, element}
-use Rattle.image.specs.Rules.{brokenAt, sharesAt}
+use Rattle.image.specs.Image.{S, e#, element}
+use Rattle.image.specs.Verdict.{isProduct, brokenAt, sharesAt}
 use Rattle.image.specs.Found.{lastAt, countAt}
 use Rattle.image.proofs.Exact.{tested}
 

@@ -14,16 +14,20 @@ use Rattle.chains.specs.Chain.{Sector, Chain}
 use Rattle.chains.specs.Psi.{Ψ}
 use Rattle.chains.proofs.ProductLaws as products
 use Rattle.chains.proofs.ProductLaws.{Tested}
-use Rattle.rules.specs.Claim.{Kept, Fails, here, later, Rule, first, FailsRow}
+use Rattle.rules.specs.Claim.{Kept, Fails}
+use Rattle.rules.specs.First.{first}
+use Rattle.rules.specs.Rows.{FailsRow}
 use Rattle.rules.proofs.ClaimLaws as CL
-use Rattle.rules.proofs.ClaimLaws.{and-true, Found, none, one, kept-fails, fails-one, Numbered, together, fails-absent, fails-row}
+use Rattle.rules.proofs.ClaimLaws.{and-true, Found, none, one, kept-fails, fails-one, fails-some, Numbered, together, fails-absent, fails-row}
 use Rattle.rules.specs.Lowest.{lowest}
 use Rattle.rules.proofs.LowestLaws.{Found-lowest, nowhere, somewhere, lowest-is}
-use Rattle.image.specs.Image.{shellPad, tablePad, dataset, S, e#, SCTL, entryAt, tableAt, isProduct, element, chain, sectors}
-use Rattle.image.specs.Rules.{rules, brokenAt, sharesAt, judged, verdict}
+use Rattle.image.specs.Image.{shellPad, tablePad, dataset, S, e#, SCTL, entryAt, tableAt, element, chain, sectors}
+use Rattle.image.specs.Verdict.{isProduct, brokenAt, sharesAt, judged, verdict}
+use Rattle.image.specs.Rules.{rules}
 use Rattle.image.specs.Bounds.{Bounds}
 use Rattle.image.specs.Obeys as O
-use Rattle.image.specs.Obeys.{IsProduct, Broken, Shares, Zeros, Obeys, Lowest, Says, accepted, refused, shared}
+use Rattle.image.specs.Obeys.{IsProduct, Broken, Shares, Obeys, Lowest, Says, accepted, refused, shared}
+use Rattle.image.specs.Facts.{Zeros, Facts}
 use Rattle.image.proofs.Bounded.{bounds}
 use Rattle.image.proofs.Padding.{zeros-field}
 
@@ -92,9 +96,9 @@ kept-bounds c k =
     bounds c (k .0, (k .1 .0, (k .1 .1 .0, (k .1 .1 .1 .0, (k .1 .1 .1 .1 .0, tt)))))
     (k5 .0, (k5 .1 .0, (k5 .1 .1 .0, (k5 .1 .1 .1 .0, (k5 .1 .1 .1 .1 .0, (k5 .1 .1 .1 .1 .1 .0, (k5 .1 .1 .1 .1 .1 .1 .0, (k5 .1 .1 .1 .1 .1 .1 .1 .0, (k5 .1 .1 .1 .1 .1 .1 .1 .1 .0, tt)))))))))
 
-pub obeys-bounds : (c : List ℕ) → Obeys c → Bounds c
+pub facts-bounds : (c : List ℕ) → Facts c → Bounds c
 unfolding dataset
-obeys-bounds c o =
+facts-bounds c o =
     bounds c (o .head, (o .length-stated, (o .version-one, (o .copy-in-force, (o .shell-there, tt)))))
     (o .bit-map-zero, (o .dataset-least, (o .sectors-least, (o .size-least, (o .entries, (o .table-bytes, (o .directory-fits, (o .dataset-fits, (o .whole, tt)))))))))
 
@@ -112,9 +116,9 @@ module _ (c : List ℕ) (b : Bounds c) where
       let e : 8 * tableAt c + Ψ (S c) * (S c - 3) + (8 * SCTL c - Ψ (S c) * (S c - 3)) ≡ 8 * (tableAt c + SCTL c) = omega arith in
       rw e at (zeros-field c (8 * tableAt c + Ψ (S c) * (S c - 3)) (8 * SCTL c - Ψ (S c) * (S c - 3)))
 
-pub kept-obeys : (c : List ℕ) → Kept (rules c) → ((j : ℕ) → Broken c j → ⊥) → ((k : ℕ) → Shares c k → ⊥) → Obeys c
+pub kept-facts : (c : List ℕ) → Kept (rules c) → ((j : ℕ) → Broken c j → ⊥) → ((k : ℕ) → Shares c k → ⊥) → Facts c
 unfolding rules dataset
-kept-obeys c k b s =
+kept-facts c k b s =
     let k5 = k .1 .1 .1 .1 .1 in
     let k10 = k5 .1 .1 .1 .1 .1 in
     let k15 = k10 .1 .1 .1 .1 .1 in
@@ -145,19 +149,25 @@ kept-obeys c k b s =
       disjoint = products.disjoint-none t (element c) .1 s;
     }
 
-pub obeys-kept : (c : List ℕ) → Obeys c → Kept (rules c)
+pub facts-kept : (c : List ℕ) → Facts c → Kept (rules c)
 unfolding rules dataset
-obeys-kept c o =
-    let g = obeys-bounds c o in
+facts-kept c o =
+    let g = facts-bounds c o in
     (o .head, (o .length-stated, (o .version-one, (o .copy-in-force, (o .shell-there, (o .bit-map-zero, (o .dataset-least, (o .sectors-least, (o .size-least, (o .entries, (o .table-bytes, (o .directory-fits, (o .dataset-fits, (o .whole, (o .checksum, (o .iin, (o .issn, (o .chd, (shell-zeros c g .1 (o .shell-padding), (table-zeros c g .1 (o .table-padding), tt))))))))))))))))))))
 
 -- no product of an acceptable image is broken, and none shares with a lower one
-module _ (c : List ℕ) (o : Obeys c) where
+module _ (c : List ℕ) (o : Facts c) where
   pub none-broken : (j : ℕ) → Broken c j → ⊥
   none-broken = products.chained-none (tested c (o .entries .1)) (element c) .0 (o .chained)
 
   pub none-shares : (k : ℕ) → Shares c k → ⊥
   none-shares = products.disjoint-none (tested c (o .entries .1)) (element c) .0 (o .disjoint)
+
+pub obeys-facts : (c : List ℕ) → Obeys c → Facts c
+obeys-facts c o = kept-facts c (o .kept) (o .none-broken) (o .none-shares)
+
+pub facts-obeys : (c : List ℕ) → Facts c → Obeys c
+facts-obeys c f = record { kept = facts-kept c f; none-broken = none-broken c f; none-shares = none-shares c f }
 
 -- e# is at most S - 3 where the rules are kept
 fits-kept : (c : List ℕ) → Kept (rules c) → e# c ≤ S c - 3
@@ -173,7 +183,7 @@ module _ (c : List ℕ) where
 
   says-kept : Kept (rules c) → (j k : ℕ) → LowestOr (Broken c) j → LowestOr (Shares c) k → Says c (judged 0 j k .number) (judged 0 j k .entry)
   unfolding LowestOr
-  says-kept r zero zero (inl x) (inl y) = accepted (kept-obeys c r (x .1) (y .1))
+  says-kept r zero zero (inl x) (inl y) = accepted (record { kept = r; none-broken = x .1; none-shares = y .1 })
   says-kept r zero (suc k) (inl x) (inl y) = absurd (omega (arith, y .0))
   says-kept r zero zero (inl x) (inr y) = absurd (omega (arith, y .0))
   says-kept r zero (suc k) (inl x) (inr y) = shared r (x .1) (y .1)
@@ -205,18 +215,18 @@ module _ (c : List ℕ) where
   -- document 01 says one thing of each image
   pub says-one : {n e m f : ℕ} → Says c n e → Says c m f → (n ≡ m) × (e ≡ f)
   says-one (accepted o) (accepted p) = (refl, refl)
-  says-one (accepted o) (refused f) = absurd (kept-fails f (obeys-kept c o))
-  says-one (accepted o) (O.broken {j = j} r l) = absurd (none-broken c o j (l .holds))
-  says-one (accepted o) (shared {k = k} r b l) = absurd (none-shares c o k (l .holds))
-  says-one (refused f) (accepted o) = absurd (kept-fails f (obeys-kept c o))
+  says-one (accepted o) (refused f) = absurd (kept-fails f (o .kept))
+  says-one (accepted o) (O.broken {j = j} r l) = absurd (o .none-broken j (l .holds))
+  says-one (accepted o) (shared {k = k} r b l) = absurd (o .none-shares k (l .holds))
+  says-one (refused f) (accepted o) = absurd (kept-fails f (o .kept))
   says-one (refused f) (refused g) = (fails-one f g, refl)
   says-one (refused f) (O.broken r l) = absurd (kept-fails f r)
   says-one (refused f) (shared r b l) = absurd (kept-fails f r)
-  says-one (O.broken {j = j} r l) (accepted o) = absurd (none-broken c o j (l .holds))
+  says-one (O.broken {j = j} r l) (accepted o) = absurd (o .none-broken j (l .holds))
   says-one (O.broken r l) (refused f) = absurd (kept-fails f r)
   says-one (O.broken {j = j} r l) (O.broken {j = k} q m) = (refl, lowest-one (Broken c) j k l m)
   says-one (O.broken {j = j} r l) (shared q b m) = absurd (b j (l .holds))
-  says-one (shared {k = k} r b l) (accepted o) = absurd (none-shares c o k (l .holds))
+  says-one (shared {k = k} r b l) (accepted o) = absurd (o .none-shares k (l .holds))
   says-one (shared r b l) (refused f) = absurd (kept-fails f r)
   says-one (shared r b l) (O.broken {j = j} q m) = absurd (b j (m .holds))
   says-one (shared {k = j} r b l) (shared {k = k} q d m) = (refl, lowest-one (Shares c) j k l m)
@@ -227,17 +237,17 @@ module _ (c : List ℕ) where
 
   obeys-says : {n e : ℕ} → Says c n e → n ≡ 0 → Obeys c
   obeys-says (accepted o) z = o
-  obeys-says (refused f) z = absurd (fails-number f (numbered c) z)
-    where
-      fails-number : {n : ℕ} {rs : List Rule} → Fails rs n → Numbered rs → n ≡ 0 → ⊥
-      fails-number (here b) h z = omega (arith, h .0, z)
-      fails-number (later m f) h z = fails-number f (h .1) z
+  obeys-says (refused f) z = absurd (omega (arith, fails-some f (numbered c)))
   obeys-says (O.broken r l) z = absurd (omega arith)
   obeys-says (shared r b l) z = absurd (omega arith)
 
   -- accepted if and only if it obeys
-  pub accepts : (verdict c .number ≡ 0) ↔ Obeys c
-  accepts = ((λ z. obeys-says says z), λ o. exact 0 0 .1 (accepted o) .0)
+  pub accepted-exactly : (verdict c .number ≡ 0) ↔ Obeys c
+  accepted-exactly = ((λ z. obeys-says says z), λ o. exact 0 0 .1 (accepted o) .0)
+
+  -- the same, by the facts
+  pub accepts : (verdict c .number ≡ 0) ↔ Facts c
+  accepts = ((λ z. obeys-facts c (accepted-exactly .0 z)), λ f. accepted-exactly .1 (facts-obeys c f))
 
   row-says : {n e : ℕ} → Says c n e → n ≢ 0 → n ≢ 10 → n ≢ 11 → Fails (rules c) n
   row-says (accepted o) x y z = absurd (x refl)

@@ -6,8 +6,8 @@ use mathlib.Core.List.{List, [], _∷_, _++_}
 use Prim.Native.Nat.{ℕ, _+_, _*_, _≤_}
 use native.Mathlib.Nat.{suc-mul}
 use native.Mathlib.Omega.{arith}
-use lib.ListN.{length, drop, length-drop, length-append}
-use lib.Seq.{length-take-le}
+use lib.ListN.{length, take, drop, length-drop, length-append}
+use lib.Seq.{length-take-le, take-at}
 use Rattle.bits.specs.Bits.{Bytes, field}
 use Rattle.bits.proofs.Laws.{field-cong, field-part, bit-append-left, bytes-append, bytes-take, bytes-drop}
 use Rattle.fields.specs.Fields.{fields}
@@ -15,20 +15,21 @@ use Rattle.chains.specs.Chain.{Sector, Leads, last, In}
 use Rattle.chains.specs.Chain as C
 use Rattle.chains.proofs.Laws.{chain-sectors}
 use Rattle.image.specs.Image.{B, S, sectorAt, element, sectors, sector, joined, product}
-use Rattle.image.specs.Obeys.{IsProduct, Obeys}
+use Rattle.image.specs.Obeys.{IsProduct}
+use Rattle.image.specs.Facts.{Facts}
 use Rattle.image.proofs.Exact.{product-sector}
-use Rattle.image.proofs.Accepted.{obeys-bounds}
+use Rattle.image.proofs.Accepted.{facts-bounds}
 use Rattle.image.proofs.Same.{before-directory}
 use Rattle.image.proofs.Stays.{chain-of}
 
 -- a chain's list starts with the sector it starts at
 pub sectors-head : {f : ℕ → ℕ} {s i m : ℕ} {ss : List ℕ} → Leads f s i ss m → (rest : List ℕ) × (ss ≡ i ∷ rest)
 sectors-head (last a) = ([], refl)
-sectors-head (C.next {ss = ss} a p) = (ss, refl)
+sectors-head (C.then {ss = ss} a p) = (ss, refl)
 
 pub first-in : {f : ℕ → ℕ} {s i m : ℕ} {ss : List ℕ} → Leads f s i ss m → In i ss
 first-in (last a) = inl refl
-first-in (C.next a p) = inl refl
+first-in (C.then a p) = inl refl
 
 pub bytes-joined : (c : List ℕ) → Bytes c → (is : List ℕ) → Bytes (joined c is)
 unfolding joined sector
@@ -36,12 +37,12 @@ bytes-joined c b [] = λ k. omega arith
 bytes-joined c b (i ∷ is) =
     bytes-append (sector c i) (joined c is) (bytes-take (B c) (drop (sectorAt c i) c) (bytes-drop (sectorAt c i) c b)) (bytes-joined c b is)
 
-module _ (c : List ℕ) (o : Obeys c) where
+module _ (c : List ℕ) (o : Facts c) where
   pub length-sector : (i : ℕ) → Sector (S c) i → length (sector c i) ≡ B c
   unfolding sector
   length-sector i k =
-      let h = before-directory c (obeys-bounds c o) i k in
-      let g = obeys-bounds c o .directory-in in
+      let h = before-directory c (facts-bounds c o) i k in
+      let g = facts-bounds c o .directory-in in
       length-take-le (B c) (drop (sectorAt c i) c) (omega (arith, length-drop (sectorAt c i) c))
 
   length-joined : (is : List ℕ) → ((i : ℕ) → In i is → Sector (S c) i) → length (joined c is) ≡ length is * B c
@@ -63,6 +64,9 @@ module _ (c : List ℕ) (o : Obeys c) where
     pub product-starts : (rest : List ℕ) × (product c j ≡ sector c j ++ rest)
     unfolding product joined
     product-starts = let r = sectors-head (chain-of c o v .leads) in (joined c (r .0), ap (joined c) (r .1))
+
+    pub first-sector : take (B c) (product c j) ≡ sector c j
+    first-sector = rw (product-starts .1) (take-at (sector c j) (product-starts .0) (B c) (length-sector j (product-sector c (o .entries .1) v)))
 
     pub product-first : (p w : ℕ) → p + w ≤ 8 * B c → field (product c j) p w ≡ field c (8 * sectorAt c j + p) w
     unfolding sector

@@ -10,15 +10,16 @@ use lib.ListN.{length}
 use Rattle.chains.specs.Chain.{Sector, lastOf}
 use Rattle.chains.specs.Packed.{markSaid}
 use Rattle.chains.proofs.ProductLaws.{told, last-some}
-use Rattle.image.specs.Image.{S, e#, isProduct, element, chain, sectors, mark}
-use Rattle.image.specs.Rules.{verdict}
-use Rattle.image.specs.Obeys.{Obeys, Present}
+use Rattle.image.specs.Image.{S, e#, element, chain, sectors, mark}
+use Rattle.image.specs.Verdict.{isProduct, verdict}
+use Rattle.image.specs.Facts.{Facts, Present}
 use Rattle.image.specs.Bounds.{Bounds}
-use Rattle.image.specs.Product.{seen, seenBy, productAt}
+use Rattle.image.specs.Seen.{seen, seenBy}
+use Rattle.image.specs.Product.{productAt}
 use Rattle.image.specs.Found.{foundIn, foundOf, lastAt, countAt}
 use Rattle.image.specs.declared.Found.{Found}
 use Rattle.image.specs.declared.Found.the-variants.{There, Not}
-use Rattle.image.proofs.Exact.{test-product, tested, accepts, obeys-bounds}
+use Rattle.image.proofs.Exact.{test-product, tested, accepts, facts-bounds}
 
 -- entry j of the accepted image c is a product, whose chain ends in sector l after n sectors; the element of l has its mark
 pub record Finds (c : List ℕ) (j l n : ℕ) : Type 0 where
@@ -52,7 +53,7 @@ module _ (c : List ℕ) (j : ℕ) where
       go (suc n) h = refl
 
   module _ (z : verdict c .number ≡ 0) where
-    obeys : Obeys c
+    obeys : Facts c
     obeys = accepts c .0 z
 
     -- it is accepted, and the entry is no product: every product of an accepted image has a chain
@@ -80,7 +81,7 @@ module _ (c : List ℕ) (j : ℕ) where
           accepted = z;
           is-there = e;
           present = record { obeys = obeys; is-product = v };
-          in-bounds = obeys-bounds c obeys;
+          in-bounds = facts-bounds c obeys;
           sector = rw (← t .last-is) (t .sector);
           last-is = refl;
           count-is = refl;

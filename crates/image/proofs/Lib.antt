@@ -14,3 +14,4 @@ pub mod Same
 pub mod Places
 pub mod Stays
 pub mod Founds
+pub mod Asked

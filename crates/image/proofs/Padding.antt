@@ -7,7 +7,7 @@ use native.Mathlib.Nat.{zero-div, zero-mod}
 use native.Mathlib.Omega.{arith}
 use Rattle.bits.specs.Bits.{digit, bit, number, field}
 use Rattle.bits.proofs.Laws.{digit-field, number-digits}
-use Rattle.image.specs.Obeys.{Zeros}
+use Rattle.image.specs.Facts.{Zeros}
 
 digit-zero : (w j : ℕ) → digit 0 w j ≡ 0
 unfolding digit

@@ -8,16 +8,16 @@ use lib.ListN.{length, take, drop, length-drop}
 use lib.Seq.{take-all, length-take-le, ext-getD}
 use Rattle.bits.proofs.Laws.{field-below, field-drop}
 use Rattle.fields.specs.declared.Layout.{Layout}
-use Rattle.fields.specs.Lists.{listOf, endOf, nth}
+use Rattle.fields.specs.Lists.{listOf, bitAfter, nth}
 use Rattle.fields.specs.Fields.{fields, valueAt}
 use Rattle.fields.proofs.Joined.{place-fits}
 use Rattle.fields.proofs.Laws.{length-fields, getD-fields}
 use Rattle.chains.specs.Chain.{Sector}
-use Rattle.chains.specs.Packed.{Inside, packed}
+use Rattle.chains.specs.Packed.{Inside, elementIn}
 use Rattle.chains.specs.declared.Table.{Table}
 use Rattle.chains.proofs.Laws.{chain-short}
 use Rattle.image.specs.Image.{S, sectorAt, entryAt, element, sectors, product}
-use Rattle.image.specs.Obeys.{Present}
+use Rattle.image.specs.Facts.{Present}
 use Rattle.image.specs.Shape.{Shaped, tableOf, sectorPlace, entryPlace}
 use Rattle.image.specs.declared.Shape.{Shape}
 use Rattle.image.proofs.Shapes.{inside, sector-is}
@@ -58,7 +58,7 @@ module _ {c : List ℕ} {g : Shape} (s : Shaped c g) where
   pub element-asks : {t : Table} → t ≡ tableOf g → (i : ℕ) → Sector (S c) i → Inside c t × Sector (t .sectors) i
   element-asks q i k = rw q (inside s, rw (s .sectors-is) k)
 
-  pub element-read : {t : Table} → t ≡ tableOf g → (i r : ℕ) → r ≡ packed c (t .first) (t .psi) i → (r ≡ element c i) × (r < 256)
+  pub element-read : {t : Table} → t ≡ tableOf g → (i r : ℕ) → r ≡ elementIn c (t .first) (t .psi) i → (r ≡ element c i) × (r < 256)
   unfolding element
   element-read q i r e =
       let h = rw (q, s .table-is, s .psi-is) at e in
@@ -69,14 +69,14 @@ module _ {c : List ℕ} {j : ℕ} (t : Present c j) where
   pub own-sector : Sector (S c) j
   own-sector = product-sector c (t .obeys .entries .1) (t .is-product)
 
-  pub value-first : (k : Layout) (i : ℕ) → i < length (listOf k) → endOf k ≤ 256 → valueAt k i (drop (sectorAt c j) c) ≡ valueAt k i (product c j)
+  pub value-first : (k : Layout) (i : ℕ) → i < length (listOf k) → bitAfter k ≤ 256 → valueAt k i (drop (sectorAt c j) c) ≡ valueAt k i (product c j)
   value-first k i h e =
       let b = t .obeys .size-least in
       let p = nth (listOf k) i in
       field-drop c (sectorAt c j) (p .0) (p .1)
       ∙ sym (product-first c (t .obeys) (t .is-product) (p .0) (p .1) (omega (arith, place-fits k i 256 h e .1)))
 
-  pub fields-first : (k : Layout) → endOf k ≤ 256 → fields (drop (sectorAt c j) c) (listOf k) ≡ fields (product c j) (listOf k)
+  pub fields-first : (k : Layout) → bitAfter k ≤ 256 → fields (drop (sectorAt c j) c) (listOf k) ≡ fields (product c j) (listOf k)
   fields-first k e =
       let n = length-fields (drop (sectorAt c j) c) (listOf k) in
       ext-getD 0 _ _ (n ∙ sym (length-fields (product c j) (listOf k)))

@@ -6,12 +6,13 @@ use native.Mathlib.Omega.{arith}
 use lib.ListN.{length, take, drop, length-drop}
 use lib.Seq.{take-all}
 use Rattle.chains.specs.Psi.{Ψ}
-use Rattle.chains.specs.Chain.{walk}
-use Rattle.chains.specs.Packed.{Inside, packed}
+use Rattle.chains.specs.Walk.{walk}
+use Rattle.chains.specs.Packed.{Inside, elementIn}
 use Rattle.chains.specs.Owners.{follow}
 use Rattle.image.specs.Image.{S, sectorAt, directoryAt, entryAt, tableAt, element}
 use Rattle.image.specs.Bounds.{Bounds}
-use Rattle.image.specs.Shape.{shapeOf, Shaped, tableOf, sectorPlace, entryPlace}
+use Rattle.image.specs.Check.{shapeOf}
+use Rattle.image.specs.Shape.{Shaped, tableOf, sectorPlace, entryPlace}
 use Rattle.image.specs.declared.Shape.{Shape}
 
 -- the bits of the elements
@@ -44,15 +45,15 @@ inside s =
     record { least = omega arith; most = omega arith; narrow = omega arith; near = omega arith; far = omega arith; whole = omega arith; within = omega (arith, used-is s) }
 
 -- an element of it is the image's, and the walk over it is the chain
-pub element-is : {c : List ℕ} {g : Shape} → Shaped c g → (i : ℕ) → packed c (8 * g .table) (g .psi) i ≡ element c i
+pub element-is : {c : List ℕ} {g : Shape} → Shaped c g → (i : ℕ) → elementIn c (8 * g .table) (g .psi) i ≡ element c i
 unfolding element
 element-is s i = rw (s .psi-is, s .table-is)
 
-pub walk-is : {c : List ℕ} {g : Shape} → Shaped c g → (j n : ℕ) → walk (packed c (8 * g .table) (g .psi)) (g .sectors) j n ≡ walk (element c) (S c) j n
+pub walk-is : {c : List ℕ} {g : Shape} → Shaped c g → (j n : ℕ) → walk (elementIn c (8 * g .table) (g .psi)) (g .sectors) j n ≡ walk (element c) (S c) j n
 unfolding element
 walk-is s j n = rw (s .psi-is, s .sectors-is, s .table-is)
 
-pub follow-is : {c : List ℕ} {g : Shape} → Shaped c g → (k n : ℕ) (owner : List ℕ) → follow (packed c (8 * g .table) (g .psi)) (g .sectors) k n owner k ≡ follow (element c) (S c) k n owner k
+pub follow-is : {c : List ℕ} {g : Shape} → Shaped c g → (k n : ℕ) (owner : List ℕ) → follow (elementIn c (8 * g .table) (g .psi)) (g .sectors) k n owner k ≡ follow (element c) (S c) k n owner k
 unfolding element
 follow-is s k n owner = rw (s .psi-is, s .sectors-is, s .table-is)
 

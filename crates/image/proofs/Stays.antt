@@ -8,16 +8,20 @@ use Prim.Native.Nat.{ℕ, _+_, _-_, _*_, _≤_}
 use native.Mathlib.Nat.{add-zero}
 use native.Mathlib.Omega.{arith}
 use Rattle.bits.specs.Bits.{field}
-use Rattle.chains.specs.Chain.{Sector, Ends, In, Common, Chain, Walk, found, broken, walk, lastOf}
+use Rattle.chains.specs.Chain.{Sector, Ends, In, Common, Chain, lastOf}
+use Rattle.chains.specs.Walk.{Walk, found, broken, walk}
+use Rattle.chains.specs.Products.{sectorsOf, markOf}
 use Rattle.chains.specs.Psi.{tableBytes}
 use Rattle.chains.proofs.Laws.{found-chain, broken-none, chain-apart, chain-marked, chain-kept}
-use Rattle.image.specs.Image.{S, e#, directoryAt, entryAt, isProduct, element, chain, sectors, sectorsOf, mark, markOf}
-use Rattle.image.specs.Obeys.{IsProduct, Obeys}
+use Rattle.image.specs.Image.{S, e#, directoryAt, entryAt, element, chain, sectors, mark}
+use Rattle.image.specs.Verdict.{isProduct}
+use Rattle.image.specs.Obeys.{IsProduct}
+use Rattle.image.specs.Facts.{Facts}
 use Rattle.image.proofs.Exact.{test-product, product-test, product-sector, so-sectors}
 use Rattle.image.proofs.Same.{Same}
 
 -- the chain of a product
-pub chain-of : (c : List ℕ) → Obeys c → {j : ℕ} → IsProduct c j → Chain (element c) (S c) j (sectors c j) (mark c j)
+pub chain-of : (c : List ℕ) → Facts c → {j : ℕ} → IsProduct c j → Chain (element c) (S c) j (sectors c j) (mark c j)
 unfolding sectors mark chain
 chain-of c o {j} v = go (walk (element c) (S c) j (S c - 3)) refl
   where
@@ -32,11 +36,15 @@ pub so-mark : (c : List ℕ) → e# c ≤ S c - 3 → {j m : ℕ} {ss : List ℕ
 unfolding mark chain
 so-mark c fits v d = rw (found-chain (element c) (S c) (product-sector c fits v) .1 d)
 
+-- a product has one chain
+pub chain-only : (c : List ℕ) → Facts c → {j m : ℕ} {ss : List ℕ} → IsProduct c j → Chain (element c) (S c) j ss m → (ss ≡ sectors c j) × (m ≡ mark c j)
+chain-only c o v d = (sym (so-sectors c (o .entries .1) v d), sym (so-mark c (o .entries .1) v d))
+
 -- two products have no sector in common
-pub no-common : (c : List ℕ) → Obeys c → {j k : ℕ} → IsProduct c j → IsProduct c k → j ≢ k → Common (sectors c j) (sectors c k) → ⊥
+pub no-common : (c : List ℕ) → Facts c → {j k : ℕ} → IsProduct c j → IsProduct c k → j ≢ k → Common (sectors c j) (sectors c k) → ⊥
 no-common c o {j} {k} v w d h = o .disjoint j k v w d (sectors c j) (sectors c k) (mark c j) (mark c k) (chain-of c o v) (chain-of c o w) h
 
-module _ {c d : List ℕ} {l m k : ℕ} (o : Obeys c) (q : Same c d l) (old : Ends (S c) l (element c l) m) (new : Ends (S c) l (element d l) k) where
+module _ {c d : List ℕ} {l m k : ℕ} (o : Facts c) (q : Same c d l) (old : Ends (S c) l (element c l) m) (new : Ends (S c) l (element d l) k) where
   pub entry-same : (j p w : ℕ) → 1 ≤ j → j ≤ e# c → p + w ≤ 40 → field d (8 * entryAt d j + p) w ≡ field c (8 * entryAt c j + p) w
   unfolding entryAt
   entry-same j p w a b h =
@@ -76,7 +84,7 @@ module _ {c d : List ℕ} {l m k : ℕ} (o : Obeys c) (q : Same c d l) (old : En
       let y = chain-back (product-back w) (rw (q .S-same) at b) in
       o .disjoint i j (product-back v) (product-back w) ne ss ts (x .0) (y .0) (x .1) (y .1) h
 
-  pub obeys : Obeys d
+  pub obeys : Facts d
   obeys = record {
     head = omega (arith, q .length-same, o .head);
     length-stated = q .stated-same ∙ o .length-stated ∙ sym (q .length-same);

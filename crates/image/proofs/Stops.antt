@@ -4,7 +4,8 @@ use mathlib.Core.Logic.{_≢_}
 use mathlib.Core.List.{List, _++_}
 use Prim.Native.Nat.{ℕ, zero, suc}
 use native.Mathlib.Omega.{arith}
-use Rattle.rules.specs.Claim.{Rule, Kept, first}
+use Rattle.rules.specs.Claim.{Rule, Kept}
+use Rattle.rules.specs.First.{first}
 use Rattle.rules.proofs.ClaimLaws.{Numbered, orElse, first-append}
 use Rattle.rules.proofs.First.{kept-of-first}
 use Rattle.image.specs.Rules.{headRules, sizeRules, contentRules, rules}

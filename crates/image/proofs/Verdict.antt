@@ -3,10 +3,12 @@ use mathlib.Core.Path.{_≡_, refl}
 use mathlib.Core.Logic.{_≢_}
 use mathlib.Core.List.{List, [], _∷_, _++_}
 use Prim.Native.Nat.{ℕ, zero, suc}
-use Rattle.rules.specs.Claim.{Rule, Kept, first}
+use Rattle.rules.specs.Claim.{Rule, Kept}
+use Rattle.rules.specs.First.{first}
 use Rattle.rules.specs.Lowest.{lowest}
 use Rattle.image.specs.Image.{e#}
-use Rattle.image.specs.Rules.{headRules, sizeRules, contentRules, rules, brokenAt, sharesAt, judged, verdict}
+use Rattle.image.specs.Rules.{headRules, sizeRules, contentRules, rules}
+use Rattle.image.specs.Verdict.{brokenAt, sharesAt, judged, verdict}
 use Rattle.image.specs.Bounds.{Bounds}
 use Rattle.image.proofs.Bounded.{bounds}
 use Rattle.image.proofs.Exact.{numbered}

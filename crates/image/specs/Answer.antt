@@ -1,9 +1,6 @@
--- What the answers of a check mean. Assumes nothing.
+-- What the answers of a check mean (document 01, "Numbers given back"). Assumes nothing.
 use mathlib.Core.List.{List, [], _∷_}
-use Prim.Native.Nat.{ℕ, zero, suc}
-use Rattle.image.specs.Rules.{verdict}
-use Rattle.image.specs.Shape.{shapeOf}
-use Rattle.image.specs.declared.Shape.{Shape}
+use Prim.Native.Nat.{ℕ}
 use Rattle.image.specs.declared.Checked.{Checked}
 use Rattle.image.specs.declared.Checked.the-variants.{Accepted, Refused}
 
@@ -20,12 +17,3 @@ entryOf (Refused n e) = e
 abbrev pub valuesOf : Checked → List ℕ
 valuesOf (Accepted g) = g .copy ∷ g .dataset ∷ g .size ∷ g .sectors ∷ g .entries ∷ g .bytes ∷ g .psi ∷ g .directory ∷ g .table ∷ []
 valuesOf (Refused n e) = 0 ∷ 0 ∷ 0 ∷ 0 ∷ 0 ∷ 0 ∷ 0 ∷ 0 ∷ 0 ∷ []
-
--- the answer with the number n and the entry e, of an image of shape g
-abbrev pub answer : ℕ → ℕ → Shape → Checked
-answer zero e g = Accepted g
-answer (suc n) e g = Refused (suc n) e
-
--- what a check answers
-unfoldable pub checkOf : List ℕ → Checked
-checkOf c = answer (verdict c .number) (verdict c .entry) (shapeOf c)

@@ -1,4 +1,4 @@
--- What the numbers of an image are worth once the rules 1 to 6 are kept: every place named in Image lies within it. Assumes nothing.
+-- An annex: what the numbers of an image are worth once the rules 1 to 6 are kept: every place named in Image lies within it. Assumes nothing.
 use mathlib.Core.List.{List}
 use Prim.Native.Nat.{ℕ, _+_, _-_, _*_, _≤_, _<_}
 use lib.ListN.{length}

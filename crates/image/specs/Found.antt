@@ -1,11 +1,12 @@
--- What a call on one product finds before its own numbers: the image's own refusal, 20, or the product. Assumes nothing.
+-- An annex: what a call on one product finds before its own numbers: the image's own refusal, 20, or the product. Assumes nothing.
 use Prim.Native.Nat.{ℕ}
 use mathlib.Core.List.{List}
 use lib.ListN.{length}
 use Rattle.chains.specs.Chain.{lastOf}
 use Rattle.chains.specs.Products as products
-use Rattle.image.specs.Image.{S, isProduct, element, sectors}
-use Rattle.image.specs.Product.{Seen, refused, missing, there, seen}
+use Rattle.image.specs.Verdict.{isProduct}
+use Rattle.image.specs.Image.{S, element, sectors}
+use Rattle.image.specs.Seen.{Seen, refused, missing, there, seen}
 use Rattle.image.specs.declared.Found.{Found}
 use Rattle.image.specs.declared.Found.the-variants.{There, Not}
 

@@ -2,8 +2,12 @@ pub mod Image
 pub mod Rules
 pub mod Product
 pub mod Obeys
+pub mod Verdict
+pub mod Answer
+pub mod Check
+pub mod Facts
+pub mod Seen
 pub mod Bounds
 pub mod Shape
-pub mod Answer
 pub mod Found
 pub mod Consulted

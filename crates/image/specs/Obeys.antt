@@ -1,87 +1,47 @@
--- What an acceptable image is, said plainly, and when each number is given. Numbers and words are those of document 01, "Numbers given back".
--- Assumes nothing.
-use mathlib.Core.Path.{_≡_}
+-- What an acceptable image is, and when each number is given (document 01, "Numbers given back"). Assumes nothing.
 use mathlib.Core.Logic.{_≢_}
 use mathlib.Core.List.{List}
-use Prim.Native.Nat.{ℕ, _+_, _-_, _*_, _/_, _%_, _^_, _≤_, _<_}
-use lib.ListN.{length, drop}
-use Rattle.bits.specs.Bits.{bit, field}
-use Rattle.chains.specs.Products as products
-use Rattle.chains.specs.Psi.{Ψ, tableBytes}
-use Rattle.crc.specs.Crc.{crc}
-use Rattle.rules.specs.Claim.{Kept, Fails}
-use Rattle.shell.specs.Shell.{ShellBitMap, IIN, ISSN, CHD}
-use Rattle.image.specs.Image.{stated, version, copy, shellValues, dataset, B, S, e#, SCTL, SECR, beforeSECR, entryAt, tableAt, element}
+use Prim.Native.Nat.{ℕ, _*_, _≤_, _<_}
+use Rattle.bits.specs.Bits.{field}
+use Rattle.chains.specs.Chain as chain
+use Rattle.rules.specs.Claim.{Rule, Kept, Fails}
+use Rattle.image.specs.Image.{S, e#, entryAt, element}
+use Rattle.image.specs.Product.{Product, productAt}
 use Rattle.image.specs.Rules.{rules}
 
--- entry j is there and not empty
+-- entry j is there and not empty: not all of its forty bits are zero
 pub record IsProduct (c : List ℕ) (j : ℕ) : Type 0 where
   pub low : 1 ≤ j
   pub high : j ≤ e# c
   pub full : field c (8 * entryAt c j) 40 ≢ 0
 
--- 10: entry j is a product, and no chain starts at sector j
-abbrev pub Broken : List ℕ → ℕ → Type 0
-Broken c j = products.Broken (IsProduct c) (element c) (S c) j
+abbrev pub Broken : List ℕ → ℕ → Type 0  -- 10: entry j is a product, and no chain starts at sector j
+Broken c j = chain.Broken (IsProduct c) (element c) (S c) j
 
--- 11: the chain of product k has a sector in common with that of a lower one
-abbrev pub Shares : List ℕ → ℕ → Type 0
-Shares c k = products.Shares (IsProduct c) (element c) (S c) k
+abbrev pub Shares : List ℕ → ℕ → Type 0  -- 11: the chain of product k has a sector in common with that of a lower one
+Shares c k = chain.Shares (IsProduct c) (element c) (S c) k
 
--- each of the n digits of four bits of which v is made is at most 9
-abbrev pub Digits : ℕ → ℕ → Type 0
-Digits n v = (i : ℕ) → i < n → v / 2 ^ (4 * i) % 16 ≤ 9
-
--- every bit of l from bit a up to bit z is 0
-abbrev pub Zeros : List ℕ → ℕ → ℕ → Type 0
-Zeros l a z = (i : ℕ) → a ≤ i → i < z → bit l i ≡ 0
-
+-- the rules 1 to 9 are kept, no chain is broken, and no two chains have a sector in common
 pub record Obeys (c : List ℕ) : Type 0 where
-  -- 1
-  pub head : 4 ≤ length c
-  pub length-stated : stated c ≡ length c
-  -- 2, 3, 4
-  pub version-one : version c ≡ 1
-  pub copy-in-force : copy c ≤ 1
-  pub shell-there : 36 ≤ length c
-  -- 5: document 01 refuses every map but 0 (docs/DECISIONS.md, 1)
-  pub bit-map-zero : ShellBitMap (shellValues c) ≡ 0
-  pub dataset-least : 22 ≤ dataset c
-  -- 6
-  pub sectors-least : 4 ≤ S c
-  pub size-least : 32 ≤ B c
-  pub entries : (1 ≤ e# c) × (e# c ≤ S c - 3)
-  pub table-bytes : SCTL c ≡ tableBytes (S c)
-  pub directory-fits : 16 + 5 * e# c + SCTL c ≤ B c
-  pub dataset-fits : dataset c ≤ B c
-  pub whole : length c ≡ 4 + S c * B c
-  -- 7
-  pub checksum : SECR c ≡ crc (beforeSECR c)
-  -- 8: the digits, and the shell's padding from byte 20 up to the checksum
-  pub iin : Digits 6 (IIN (shellValues c))
-  pub issn : Digits 7 (ISSN (shellValues c))
-  pub chd : Digits 1 (CHD (shellValues c))
-  pub shell-padding : Zeros (drop 4 c) 160 (8 * (dataset c - 2))
-  -- 9: the bits after the last element, to the end of the table
-  pub table-padding : Zeros c (8 * tableAt c + Ψ (S c) * (S c - 3)) (8 * (tableAt c + SCTL c))
-  -- 10: every product has a chain
-  pub chained : products.Chained (IsProduct c) (element c) (S c)
-  -- 11: no two products have a sector in common
-  pub disjoint : products.Disjoint (IsProduct c) (element c) (S c)
-
--- entry j is a product of an acceptable image: none of 1 to 11 and 20 holds
-pub record Present (c : List ℕ) (j : ℕ) : Type 0 where
-  pub obeys : Obeys c
-  pub is-product : IsProduct c j
+  pub kept : Kept (rules c)
+  pub none-broken : (j : ℕ) → Broken c j → ⊥
+  pub none-shares : (k : ℕ) → Shares c k → ⊥
 
 -- r is the lowest number of which P holds
 pub record Lowest (P : ℕ → Type 0) (r : ℕ) : Type 0 where
   pub holds : P r
   pub not-lower : (k : ℕ) → k < r → P k → ⊥
 
--- when the number n is given, with the entry e
+-- an image gives the number n, with the entry e
 pub data Says (c : List ℕ) : ℕ → ℕ → Type 0 where
   accepted : Obeys c → Says c 0 0
   refused : {n : ℕ} → Fails (rules c) n → Says c n 0
   broken : {j : ℕ} → Kept (rules c) → Lowest (Broken c) j → Says c 10 j
   shared : {k : ℕ} → Kept (rules c) → ((j : ℕ) → Broken c j → ⊥) → Lowest (Shares c) k → Says c 11 k
+
+-- a call on entry j that has these rules for its product gives the number n, with the entry e: "20 to 28 name the entry asked for"
+pub data Gives (c : List ℕ) (j : ℕ) (rs : Product → List Rule) : ℕ → ℕ → Type 0 where
+  own : {n e : ℕ} → 1 ≤ n → Says c n e → Gives c j rs n e  -- 1 to 11 come first
+  no-product : Obeys c → (IsProduct c j → ⊥) → Gives c j rs 20 j  -- entry 0, above e#, or empty
+  against : {n : ℕ} → Obeys c → IsProduct c j → Fails (rs (productAt c j)) n → Gives c j rs n j
+  taken : Obeys c → IsProduct c j → Kept (rs (productAt c j)) → Gives c j rs 0 0

@@ -1,4 +1,4 @@
--- The shape of an image: the numbers by which everything in it is found. Assumes nothing.
+-- An annex: the shape of an image: the numbers by which everything in it is found. Assumes nothing.
 use mathlib.Core.Path.{_≡_}
 use mathlib.Core.List.{List}
 use Prim.Native.Nat.{ℕ, _+_, _-_, _*_}
@@ -7,9 +7,6 @@ use Rattle.chains.specs.declared.Table.{Table}
 use Rattle.image.specs.Image.{copy, dataset, B, S, e#, SCTL, directoryAt, tableAt}
 use Rattle.image.specs.Bounds.{Bounds}
 use Rattle.image.specs.declared.Shape.{Shape}
-
-abbrev pub shapeOf : List ℕ → Shape
-shapeOf c = record { copy = copy c; dataset = dataset c; size = B c; sectors = S c; entries = e# c; bytes = SCTL c; psi = Ψ (S c); directory = directoryAt c; table = tableAt c }
 
 -- g is the shape of c, which keeps the rules 1 to 6
 pub record Shaped (c : List ℕ) (g : Shape) : Type 0 where

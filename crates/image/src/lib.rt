@@ -71,11 +71,23 @@ pub fn table_of(g: Shape) -> Table
     }
 }
 
+// The element of sector i. Four bytes are read, since fourteen or more follow the table; moved up and then down they leave the element. Its plain
+// form is `chains::element`.
+pub fn element_of(image: &[u8], g: Shape, i: usize) -> usize
+    requires { ⌜ Shaped (now image) g ⌝ }
+    requires { ⌜ Sector (S (now image)) i ⌝ }
+    ensures { λ r. ⌜ r ≡ element (now (image .entry)) i ⌝ }
+{
+    let first = g.psi * (i - 1);
+    let four = bits::load(image, g.table + first / 8, 4) as u32;
+    ((four << (first % 8)) >> (32 - g.psi)) as usize
+}
+
 // The mark of a chain that ends in sector `last`.
 pub fn mark_of(image: &[u8], g: Shape, last: usize) -> u8
     requires { ⌜ Shaped (now image) g ⌝ }
     requires { ⌜ Sector (S (now image)) last ⌝ }
     ensures { λ r. ⌜ r ≡ markSaid (S (now (image .entry))) last (element (now (image .entry)) last) ⌝ }
 {
-    chains::mark(g.sectors, last, chains::element(image, table_of(g), last))
+    chains::mark(g.sectors, last, element_of(image, g, last))
 }

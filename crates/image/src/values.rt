@@ -6,10 +6,10 @@ use fields::Layout;
 ghost use mathlib.Core.Path.{_≡_};
 ghost use Prim.Native.Nat.{_≤_, _<_};
 ghost use lib.ListN.{length, drop};
-ghost use Rattle.fields.specs.Lists.{listOf, endOf};
+ghost use Rattle.fields.specs.Lists.{listOf, bitAfter};
 ghost use Rattle.fields.specs.Fields.{valueAt};
 ghost use Rattle.image.specs.Image.{entryAt, product};
-ghost use Rattle.image.specs.Obeys.{Present};
+ghost use Rattle.image.specs.Facts.{Present};
 ghost use Rattle.image.specs.Shape.{Shaped};
 
 // The field i of entry j.
@@ -26,7 +26,7 @@ pub fn of_entry(image: &[u8], g: Shape, j: usize, i: usize) -> u64
 pub fn of_product(image: &[u8], g: Shape, j: usize, k: Layout, i: usize) -> u64
     requires { ⌜ Shaped (now image) g ⌝ }
     requires { ⌜ Present (now image) j ⌝ }
-    requires { ⌜ (i < length (listOf k)) × (endOf k ≤ 256) ⌝ }
+    requires { ⌜ (i < length (listOf k)) × (bitAfter k ≤ 256) ⌝ }
     ensures { λ r. ⌜ r ≡ valueAt k i (product (now (image .entry)) j) ⌝ }
 {
     let at = sector_at(g, j);

@@ -13,16 +13,15 @@ use Rattle.fields.specs.Fields.{stores}
 use Rattle.fields.proofs.Only.{Inside, stores-comm}
 use Rattle.chains.proofs.Laws.{last-in}
 use Rattle.image.specs.Image.{S, tableAt, element}
-use Rattle.image.specs.Product.{Seen, seen}
+use Rattle.image.specs.Seen.{Seen, seen}
 use Rattle.image.proofs.Same.{elements-apart, element-in, sector-before, before-directory}
 use Rattle.image.proofs.Stays.{chain-of, no-common}
-use Rattle.mixing.specs.Run.{Commute}
-use Rattle.mixing.specs.Mix.{Other}
+use Rattle.mixing.specs.Alike.{Commute, Other}
 use Rattle.steps.specs.Step.{Step, owner}
 use Rattle.steps.specs.Steps.{answerOf, answer, placesOf, valuesOf, next}
 use Rattle.steps.proofs.Acts.{Taken, Act, idle, acts, act, refused-same, region, tail, inside, own-sector, tail-sector, in-bounds}
 use Rattle.steps.proofs.Keeps.{bytes-next, Where, body, link, where-is, mark-kept, seen-marked}
-use Rattle.jobs.specs.Demand.{card}
+use Rattle.jobs.specs.Demand.{cardSteps}
 
 -- ---- what a step sees
 
@@ -83,7 +82,7 @@ unfolding next
 next-next c s t b d =
     rw (seen-next c b s (owner t) d, seen-next c b t (owner s) (λ e. d (sym e))) (stores-acts c b s t d (act c s) (act c t))
 
-pub commute : Commute card Bytes (Other owner)
+pub commute : Commute cardSteps Bytes (Other owner)
 commute = record {
   stays = λ c s b. bytes-next c s b;
   symmetric = λ s t h e. h (sym e);

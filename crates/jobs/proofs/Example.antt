@@ -2,31 +2,33 @@
 -- answers alike, and two mixes end alike; what each step answers is computed from the starting card. Assumes nothing.
 use mathlib.Core.Path.{_≡_, refl, sym, ap, _∙_}
 use mathlib.Core.List.{List, [], _∷_, _++_}
-use mathlib.Core.Bool.{Bool, true, false, _&&_}
-use Prim.Native.Nat.{ℕ, zero, suc}
+use Prim.Native.Nat.{ℕ}
 use native.Mathlib.Omega.{arith}
 use lib.ListN.{replicate}
-use lib.Dec.{T, ltb, ltb→lt}
 use lib.Count.{leadingZeros}
 use Rattle.bits.specs.Bits.{Bytes, digit, bit, number, field, bytes, stored, store}
-use Rattle.fields.specs.Fields.{fields, limits, stores}
-use Rattle.fields.specs.Shifted.{shifted}
-use Rattle.chains.specs.Chain.{link, member, walkOn}
+use Rattle.bits.proofs.Laws.{below, below-bytes}
+use Rattle.fields.specs.Fields.{fields, limits, stores, shifted}
+use Rattle.chains.specs.Walk.{link, member, walkOn}
 use Rattle.chains.specs.Psi.{Ψ, tableBytes}
 use Rattle.chains.specs.Products as products
 use Rattle.crc.specs.Crc.{clock, clocks, register, crc}
-use Rattle.rules.specs.Claim.{all, first}
+use Rattle.rules.specs.First.{all, first}
 use Rattle.rules.specs.Lowest.{lowest}
 use Rattle.ticket.specs.Kind.{mostOf}
-use Rattle.image.specs.Image.{stated, version, copy, shellValues, dataset, B, S, e#, SCTL, shellPad, SECR, beforeSECR, sectorAt, directoryAt, entryAt, tableAt, isProduct, element, tablePad, chain, sectors, mark, sector, joined, product}
-use Rattle.image.specs.Rules.{rules, brokenAt, sharesAt, Verdict, verdict}
-use Rattle.image.specs.Product.{elementAt, productAt, seen}
+use Rattle.image.specs.Image.{stated, version, copy, shellValues, dataset, B, S, e#, SCTL, shellPad, SECR, beforeSECR, sectorAt, directoryAt, entryAt, tableAt, element, tablePad, chain, sectors, mark, sector, joined, product}
+use Rattle.rules.specs.Answer.{says}
+use Rattle.rules.specs.declared.Answer.{Answer}
+use Rattle.image.specs.Verdict.{isProduct, brokenAt, sharesAt, verdict}
+use Rattle.image.specs.Rules.{rules}
+use Rattle.image.specs.Product.{elementAt, productAt}
+use Rattle.image.specs.Seen.{seen}
 use Rattle.mixing.specs.Run.{end, log}
 use Rattle.mixing.specs.Mix.{Mix, here, there, done, turn, same, Job, lists, Separate, entriesOf}
-use Rattle.steps.specs.Step.{Step, write, writeAll, setMark, owner}
-use Rattle.steps.specs.Steps.{stepRules, says, answer, next}
+use Rattle.steps.specs.Step.{Step, write, writeAll, setMark, owner, stepRules}
+use Rattle.steps.specs.Steps.{answer, next}
 use Rattle.steps.proofs.Acts.{refused-same}
-use Rattle.jobs.specs.Demand.{card}
+use Rattle.jobs.specs.Demand.{cardSteps}
 use Rattle.jobs.proofs.Jobs.{jobs-mixed}
 
 -- S 6, B 33, e# 3, copy A, three tickets of TYP 23; the table says that the first is fresh and the others are used, or begins with the byte a
@@ -74,31 +76,12 @@ in-turn = turn here (turn (there here) (turn (there (there here)) (turn here (tu
 fare-first : Mix (lists jobs) fareFirst
 fare-first = turn (there (there here)) (turn (there (there here)) (turn here (turn (there (there here)) (turn (there here) (turn here (done {js = [] ∷ [] ∷ [] ∷ []} (refl, (refl, (refl, tt)))))))))
 
--- every element is a byte
-below : List ℕ → Bool
-below [] = true
-below (x ∷ l) = ltb x 256 && below l
-
-left : (a b : Bool) → T (a && b) → T a
-left true b t = tt
-left false b t = t
-
-right : (a b : Bool) → T (a && b) → T b
-right true b t = t
-right false b t = absurd t
-
-below-bytes : (l : List ℕ) → T (below l) → Bytes l
-unfolding below
-below-bytes [] t k = omega arith
-below-bytes (x ∷ l) t zero = ltb→lt x 256 (left (ltb x 256) (below l) t)
-below-bytes (x ∷ l) t (suc k) = below-bytes l (right (ltb x 256) (below l) t) k
-
 image-bytes : Bytes (image 0x36)
 unfolding image below
 image-bytes = below-bytes (image 0x36) tt
 
 -- the two mixes end alike, as the jobs whole
-pub ends-alike : end card (image 0x36) inTurn ≡ end card (image 0x36) fareFirst
+pub ends-alike : end cardSteps (image 0x36) inTurn ≡ end cardSteps (image 0x36) fareFirst
 ends-alike =
     jobs-mixed jobs separate inTurn in-turn (image 0x36) image-bytes .ends jobs same
     ∙ sym (jobs-mixed jobs separate fareFirst fare-first (image 0x36) image-bytes .ends jobs same)
@@ -106,7 +89,7 @@ ends-alike =
 -- ---- the answers
 
 -- what is to be computed
-judge : List ℕ → Step → Verdict
+judge : List ℕ → Step → Answer
 unfolding answer seen productAt elementAt stepRules verdict rules first all stated version copy shellValues fields dataset B S e# SCTL shellPad SECR beforeSECR sectorAt directoryAt entryAt tableAt isProduct Ψ tableBytes element tablePad chain sectors mark sector joined product brokenAt sharesAt products.brokenAt products.sharesAt member products.meet products.some lowest field number bit digit leadingZeros walkOn link crc register clocks clock mostOf limits
 judge c s = answer c s
 
@@ -130,15 +113,15 @@ answers-blocked = refl
 
 refused-first : (next (image 0x36) (write 3 9 1440) ≡ image 0x36) × (next (image 0x36) (write 3 23 0) ≡ image 0x36)
 refused-first = (
-  refused-same (image 0x36) (write 3 9 1440) (omega (arith, ap (λ (v : Verdict). v .number) (answers-first .2))),
-  refused-same (image 0x36) (write 3 23 0) (omega (arith, ap (λ (v : Verdict). v .number) (answers-first .3))),
+  refused-same (image 0x36) (write 3 9 1440) (omega (arith, ap (λ (v : Answer). v .number) (answers-first .2))),
+  refused-same (image 0x36) (write 3 23 0) (omega (arith, ap (λ (v : Answer). v .number) (answers-first .3))),
 )
 
 -- whatever the mix, these are the answers of the three jobs' steps
 pub answered : (m : List Step) → Mix (lists jobs) m
-    → (entriesOf owner 1 (log card (image 0x36) m) ≡ (setMark 1 2, says 0 0) ∷ (write 1 9 600, says 27 1) ∷ [])
-    × (entriesOf owner 2 (log card (image 0x36) m) ≡ (writeAll 2 values, says 0 0) ∷ [])
-    × (entriesOf owner 3 (log card (image 0x36) m) ≡ (write 3 9 1440, says 26 3) ∷ (write 3 23 0, says 25 3) ∷ (setMark 3 1, says 0 0) ∷ [])
+    → (entriesOf owner 1 (log cardSteps (image 0x36) m) ≡ (setMark 1 2, says 0 0) ∷ (write 1 9 600, says 27 1) ∷ [])
+    × (entriesOf owner 2 (log cardSteps (image 0x36) m) ≡ (writeAll 2 values, says 0 0) ∷ [])
+    × (entriesOf owner 3 (log cardSteps (image 0x36) m) ≡ (write 3 9 1440, says 26 3) ∷ (write 3 23 0, says 25 3) ∷ (setMark 3 1, says 0 0) ∷ [])
 answered m h =
     let a = jobs-mixed jobs separate m h (image 0x36) image-bytes .alone in (
       a .0 ∙ rw (blocked, answers-first .0, answers-blocked),

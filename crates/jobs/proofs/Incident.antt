@@ -6,20 +6,23 @@ use Prim.Native.Nat.{ℕ}
 use lib.ListN.{replicate}
 use lib.Count.{leadingZeros}
 use Rattle.bits.specs.Bits.{digit, bit, number, field, bytes, stored, store}
-use Rattle.fields.specs.Fields.{fields, stores}
-use Rattle.fields.specs.Shifted.{shifted}
-use Rattle.chains.specs.Chain.{link, member, walkOn}
+use Rattle.fields.specs.Fields.{fields, stores, shifted}
+use Rattle.chains.specs.Walk.{link, member, walkOn}
 use Rattle.chains.specs.Psi.{Ψ, tableBytes}
 use Rattle.chains.specs.Products as products
 use Rattle.crc.specs.Crc.{clock, clocks, register, crc}
-use Rattle.rules.specs.Claim.{all, first}
+use Rattle.rules.specs.First.{all, first}
 use Rattle.rules.specs.Lowest.{lowest}
 use Rattle.ticket.specs.Kind.{mostOf}
-use Rattle.image.specs.Image.{stated, version, copy, shellValues, dataset, B, S, e#, SCTL, shellPad, SECR, beforeSECR, sectorAt, directoryAt, entryAt, tableAt, isProduct, element, tablePad, chain, sectors, mark, sector, joined, product}
-use Rattle.image.specs.Rules.{rules, brokenAt, sharesAt, Verdict, verdict}
-use Rattle.image.specs.Product.{elementAt, productAt, seen}
-use Rattle.steps.specs.Step.{Step, setMark}
-use Rattle.steps.specs.Steps.{stepRules, says, answer}
+use Rattle.image.specs.Image.{stated, version, copy, shellValues, dataset, B, S, e#, SCTL, shellPad, SECR, beforeSECR, sectorAt, directoryAt, entryAt, tableAt, element, tablePad, chain, sectors, mark, sector, joined, product}
+use Rattle.rules.specs.Answer.{says}
+use Rattle.rules.specs.declared.Answer.{Answer}
+use Rattle.image.specs.Verdict.{isProduct, brokenAt, sharesAt, verdict}
+use Rattle.image.specs.Rules.{rules}
+use Rattle.image.specs.Product.{elementAt, productAt}
+use Rattle.image.specs.Seen.{seen}
+use Rattle.steps.specs.Step.{Step, setMark, stepRules}
+use Rattle.steps.specs.Steps.{answer}
 use Rattle.jobs.specs.Loose.{verdictLoose, seenLoose, answerLoose, nextLoose}
 
 -- S 16, B 33, e# 2, copy A, TYP 23 twice; the table begins with the bytes 33 and a
@@ -32,7 +35,7 @@ card a =
     ∷ 0x33 ∷ a ∷ replicate 52 0)))
 
 -- what is to be computed
-judge : List ℕ → Step → Verdict
+judge : List ℕ → Step → Answer
 unfolding answer seen productAt elementAt stepRules verdict rules first all stated version copy shellValues fields dataset B S e# SCTL shellPad SECR beforeSECR sectorAt directoryAt entryAt tableAt isProduct Ψ tableBytes element tablePad chain sectors mark sector joined product brokenAt sharesAt products.brokenAt products.sharesAt member products.meet products.some lowest field number bit digit leadingZeros walkOn link crc register clocks clock mostOf
 judge c s = answer c s
 
@@ -41,7 +44,7 @@ pub refused : (answer (card 0xF0) (setMark 1 2) ≡ says 11 2) × (answer (card 
 unfolding judge card
 refused = (refl, refl)
 
-judgeLoose : List ℕ → Step → Verdict
+judgeLoose : List ℕ → Step → Answer
 unfolding judge verdictLoose seenLoose answerLoose
 judgeLoose c s = answerLoose c s
 

@@ -12,7 +12,7 @@ use Rattle.steps.specs.Steps.{answer, next}
 use Rattle.steps.specs.Touched.{Touched}
 use Rattle.steps.proofs.Keeps.{bytes-next}
 use Rattle.steps.proofs.Touches.{Untouched, untouched, untouched-same, untouched-then, not-touched}
-use Rattle.jobs.specs.Demand.{card}
+use Rattle.jobs.specs.Demand.{cardSteps}
 use Rattle.jobs.specs.Named.{Named, now, then}
 
 -- each step names it and is taken, or leaves it
@@ -22,12 +22,12 @@ named-or-not c s j = elim (ℕ-discrete (answer c s .number) 0) [
   | yes z ↦ elim (ℕ-discrete (owner s) j) [ yes e ↦ inl (z, e) | no d ↦ inr (λ q. d) ]
 ]
 
-pub named-or-untouched : (m : List Step) (c : List ℕ) (j : ℕ) → Bytes c → Named j c m ⊎ Untouched c (end card c m) j
+pub named-or-untouched : (m : List Step) (c : List ℕ) (j : ℕ) → Bytes c → Named j c m ⊎ Untouched c (end cardSteps c m) j
 named-or-untouched [] c j b = inr (untouched-same c j)
 named-or-untouched (s ∷ m) c j b =
     ⊎-elim (λ h. inl (now (h .0) (h .1)))
     (λ h. ⊎-elim (λ n. inl (then n)) (λ u. inr (untouched-then (untouched c s j b h) u)) (named-or-untouched m (next c s) j (bytes-next c s b)))
     (named-or-not c s j)
 
-pub touched-named : (m : List Step) (c : List ℕ) (j : ℕ) → Bytes c → Touched c (end card c m) j → Named j c m
+pub touched-named : (m : List Step) (c : List ℕ) (j : ℕ) → Bytes c → Touched c (end cardSteps c m) j → Named j c m
 touched-named m c j b t = ⊎-elim (λ n. n) (λ u. absurd (not-touched u t)) (named-or-untouched m c j b)

@@ -1,4 +1,4 @@
--- Which entries a list of steps names with a step that was taken. Assumes nothing.
+-- Which entries a list of steps names with a step that was taken (the request: "which tickets we had touched"). Assumes nothing.
 use mathlib.Core.Path.{_≡_}
 use mathlib.Core.List.{List, _∷_}
 use Prim.Native.Nat.{ℕ}

@@ -1,43 +1,89 @@
--- The numbers of a mark are those of its rules, and the element stored in the directory sector, lent on, is stored in the image. Assumes nothing.
-use mathlib.Core.Path.{_≡_, refl, sym, ap, _∙_}
-use mathlib.Core.List.{List, [], _∷_}
-use Prim.Native.Nat.{ℕ, _+_, _-_, _*_, _≤_}
+-- The tests of a mark are its rules, and the element stored in the directory sector, lent on, is stored in the image. Assumes nothing.
+use mathlib.Core.Path.{_≡_, sym, ap, _∙_}
+use mathlib.Core.Logic.{_≢_}
+use mathlib.Core.List.{List}
+use Prim.Native.Nat.{ℕ, _+_, _-_, _*_, _≤_, _<_}
+use native.Mathlib.Decide.{decLt}
 use native.Mathlib.Omega.{arith}
 use lib.ListN.{length, take, drop}
+use borrow.Author.Tests.{le-leb, lt-leb}
 use borrow.Rule.Slice.PartMut.{putMid}
 use Rattle.bits.specs.Bits.{Bytes, store}
 use Rattle.bits.proofs.Laws.{store-part}
 use Rattle.fields.specs.Fields.{stores}
-use Rattle.chains.specs.Chain.{Sector}
+use Rattle.chains.specs.Chain.{Sector, Ends, fresh, used, blocked}
 use Rattle.chains.specs.Packed.{Inside}
 use Rattle.chains.specs.Packed as packed
 use Rattle.chains.specs.Psi.{Ψ}
-use Rattle.rules.specs.Claim.{_≤?_, _and_, rule, first}
-use Rattle.image.specs.Image.{B, S, e#, directoryAt, tableAt, mark}
+use Rattle.chains.proofs.Laws.{last-ends}
+use Rattle.rules.specs.First.{first}
+use Rattle.image.specs.Image.{B, S, e#, directoryAt, tableAt, element, mark}
 use Rattle.image.specs.Shape.{Shaped}
 use Rattle.image.specs.declared.Shape.{Shape}
 use Rattle.image.specs.Product.{elementAt, productAt}
+use Rattle.image.proofs.Founds.{Finds}
 use Rattle.image.proofs.Same.{element-in}
-use Rattle.steps.specs.Step.{setMark}
-use Rattle.steps.specs.Steps.{stepRules, next}
-use Rattle.steps.proofs.Acts.{Taken, kept-taken, kept-first, next-is}
+use Rattle.image.proofs.Stays.{chain-of}
+use Rattle.steps.specs.Step.{setMark, stepRules}
+use Rattle.steps.specs.Steps.{next}
+use Rattle.steps.proofs.Acts.{Taken, kept-taken, next-is}
 use Rattle.image.proofs.Places.{cut}
-use Rattle.steps.proofs.Calls.{Sees}
 
-pub mark-rules : (c : List ℕ) (j m : ℕ) → stepRules (productAt c j) (setMark j m) ≡ rule 28 (1 ≤? m and m ≤? 2) ∷ rule 27 (mark c j ≤? m) ∷ []
-unfolding stepRules productAt
-mark-rules c j m = refl
+-- ---- the rules of a mark
 
-module _ {c : List ℕ} {j l n m : ℕ} {g : Shape} (s : Sees c j g l n m) where
+module _ {c : List ℕ} {j l n : ℕ} (f : Finds c j l n) where
+  -- the last sector's element ends the chain
+  end : Ends (S c) l (element c l) (mark c j)
+  end = rw (f .last-is) (last-ends (element c) (S c) (chain-of c (f .present .obeys) (f .present .is-product) .leads))
+
+  -- 28
+  pub below-one : (k : ℕ) → k < 1 → first (stepRules (productAt c j) (setMark j k)) ≡ 28
+  unfolding stepRules first
+  below-one k h = rw (lt-leb 1 k h)
+
+  pub above-two : (k : ℕ) → 1 ≤ k → 2 < k → first (stepRules (productAt c j) (setMark j k)) ≡ 28
+  unfolding stepRules first
+  above-two k h u = rw (le-leb 1 k h, lt-leb k 2 u)
+
+  module _ (k x : ℕ) (h : 1 ≤ k) (u : k ≤ 2) (e : x ≡ element c l) where
+    -- the mark is there already
+    pub same-mark : x ≡ S c - k → mark c j ≡ k
+    same-mark q = go end
+      where
+        go : {m : ℕ} → Ends (S c) l (element c l) m → m ≡ k
+        go (fresh y) = absurd (omega (arith, f .sector, f .in-bounds))
+        go (used y) = omega (arith, f .in-bounds)
+        go (blocked y) = omega (arith, f .in-bounds)
+
+    -- 27
+    higher : x ≢ S c - k → x ≡ S c - 2 → k < mark c j
+    higher d q = go end
+      where
+        go : {m : ℕ} → Ends (S c) l (element c l) m → k < m
+        go (fresh y) = absurd (omega (arith, f .sector, f .in-bounds))
+        go (used y) = absurd (omega (arith, f .in-bounds))
+        go (blocked y) = elim (decLt k 2) [ yes v ↦ v | no v ↦ absurd (d (let z : k ≡ 2 = omega arith in rw z q)) ]
+
+    pub blocked-mark : x ≢ S c - k → x ≡ S c - 2 → first (stepRules (productAt c j) (setMark j k)) ≡ 27
+    unfolding stepRules productAt first
+    blocked-mark d q = rw (le-leb 1 k h, le-leb k 2 u, lt-leb (mark c j) k (higher d q))
+
+    -- neither
+    pub low-mark : x ≢ S c - 2 → mark c j ≤ k
+    low-mark d = go end
+      where
+        go : {m : ℕ} → Ends (S c) l (element c l) m → m ≤ k
+        go (fresh y) = omega arith
+        go (used y) = omega arith
+        go (blocked y) = absurd (d (e ∙ y))
+
+  pub mark-taken : (k : ℕ) → 1 ≤ k → k ≤ 2 → mark c j ≤ k → Taken c (setMark j k)
+  unfolding stepRules productAt
+  mark-taken k h u v = kept-taken c (setMark j k) (f .present .obeys) (f .present .is-product) ((h, u), (v, tt))
+
   pub mark-stored : (k : ℕ) → Taken c (setMark j k) → store c (elementAt c l) (Ψ (S c)) (S c - k) ≡ next c (setMark j k)
   unfolding productAt stores
-  mark-stored k t = rw (s .last-is) (sym (next-is c (setMark j k) t))
-
-  pub mark-first : (k r : ℕ) → r ≡ first (rule 28 (1 ≤? k and k ≤? 2) ∷ rule 27 (m ≤? k) ∷ []) → first (stepRules (productAt c j) (setMark j k)) ≡ r
-  mark-first k r e = rw (mark-rules c j k, e, s .mark-is)
-
-  pub mark-taken : (k r : ℕ) → r ≡ first (rule 28 (1 ≤? k and k ≤? 2) ∷ rule 27 (m ≤? k) ∷ []) → r ≡ 0 → Taken c (setMark j k)
-  mark-taken k r e z = kept-taken c (setMark j k) (s .present .obeys) (s .present .is-product) (kept-first (productAt c j) (setMark j k) (mark-first k r e ∙ z))
+  mark-stored k t = rw (f .last-is) (sym (next-is c (setMark j k) t))
 
 -- ---- the directory sector, lent on
 

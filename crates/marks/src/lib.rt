@@ -2,14 +2,12 @@
 use chains::Table;
 use image::Found;
 use image::Shape;
+use rules::Answer;
 use rules::BLOCKED;
 use rules::NO_MARK;
-use steps::Answer;
 ghost use mathlib.Core.Path.{_≡_};
-ghost use mathlib.Core.List.{[], _∷_};
 ghost use Prim.Native.Nat.{_-_, _≤_};
 ghost use Rattle.bits.specs.Bits.{store};
-ghost use Rattle.rules.specs.Claim.{_≤?_, _and_, rule, first};
 ghost use Rattle.chains.specs.Chain.{Sector};
 ghost use Rattle.chains.specs.Psi.{Ψ};
 ghost use Rattle.image.specs.Image.{S};
@@ -17,23 +15,6 @@ ghost use Rattle.image.specs.Shape.{Shaped};
 ghost use Rattle.image.specs.Product.{elementAt};
 ghost use Rattle.steps.specs.Step.{setMark};
 ghost use Rattle.steps.specs.Steps.{answer, next};
-ghost use Rattle.steps.specs.Answers.{answered};
-
-// 28 and 27 of a mark, on a chain that has the mark `old`; 0 where neither is given.
-fn mark_number(mark: usize, old: u8) -> usize
-    ensures { λ r. ⌜ r ≡ first (rule 28 (1 ≤? mark and mark ≤? 2) ∷ rule 27 (old ≤? mark) ∷ []) ⌝ }
-{
-    if mark < 1 {
-        return NO_MARK;
-    }
-    if 2 < mark {
-        return NO_MARK;
-    }
-    if mark < old as usize {
-        return BLOCKED;
-    }
-    0
-}
 
 // Stores the element of a chain's last sector, in the part of the image that is the directory sector in force.
 fn store_mark(image: &mut [u8], g: Shape, last: usize, mark: usize)
@@ -55,18 +36,46 @@ fn store_mark(image: &mut [u8], g: Shape, last: usize, mark: usize)
 
 // Marks a product's chain: 1 for used, 2 for blocked. Refused: the image's own numbers, 20, 28, 27.
 pub fn mark(image: &mut [u8], entry: usize, mark: usize) -> Answer
-    ensures { λ r. ⌜ (r ≡ answered (answer (now (image .entry)) (setMark entry mark))) × (now (image .exit) ≡ next (now (image .entry)) (setMark entry mark)) ⌝ }
+    ensures { λ r. ⌜ (r ≡ answer (now (image .entry)) (setMark entry mark)) × (now (image .exit) ≡ next (now (image .entry)) (setMark entry mark)) ⌝ }
 {
     match verdict::find(image, entry) {
         Found::There(last, _) => {
+            if mark < 1 {
+                return Answer {
+                    number: NO_MARK,
+                    entry: entry,
+                };
+            }
+            if 2 < mark {
+                return Answer {
+                    number: NO_MARK,
+                    entry: entry,
+                };
+            }
             let g = verdict::shape_of(image);
-            let n = mark_number(mark, image::mark_of(image, g, last));
-            if n != 0 {
-                return Answer::Refused(n, entry);
+            let link = image::element_of(image, g, last);
+            // a mark that is there already is not stored again
+            if link == g.sectors - mark {
+                return Answer {
+                    number: 0,
+                    entry: 0,
+                };
+            }
+            if link == g.sectors - 2 {
+                return Answer {
+                    number: BLOCKED,
+                    entry: entry,
+                };
             }
             store_mark(image, g, last, mark);
-            Answer::Taken
+            Answer {
+                number: 0,
+                entry: 0,
+            }
         }
-        Found::Not(n, e) => Answer::Refused(n, e),
+        Found::Not(n, e) => Answer {
+            number: n,
+            entry: e,
+        },
     }
 }

@@ -4,7 +4,8 @@ use mathlib.Core.Logic.{_≢_}
 use mathlib.Core.List.{List, [], _∷_, _++_, map}
 use mathlib.Core.Bool.{Bool, true, false}
 use Prim.Native.Nat.{ℕ}
-use Rattle.mixing.specs.Run.{Machine, Commute, end, log}
+use Rattle.mixing.specs.Run.{Machine, end, log}
+use Rattle.mixing.specs.Alike.{Commute}
 use Rattle.mixing.specs.Mix.{Every, EachTwo, keep, concat, Turn, here, there, Mix, done, turn, Swaps, same, swap, after, then, Reordered}
 
 -- Every

@@ -1,2 +1,3 @@
-pub mod Mix
 pub mod Run
+pub mod Mix
+pub mod Alike

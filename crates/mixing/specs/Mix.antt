@@ -1,11 +1,10 @@
--- Jobs, and the ways to mix them.
+-- Jobs, and the ways to mix them (the request, demand 3).
 use mathlib.Core.Path.{_≡_}
 use mathlib.Core.Logic.{_≢_}
 use mathlib.Core.List.{List, [], _∷_, _++_, map}
 use mathlib.Core.Bool.{Bool, true, false}
 use Prim.Native.Nat.{ℕ}
 use lib.Dec.{eqb}
-use Rattle.mixing.specs.Run.{Machine, end, log}
 
 -- P holds of each entry; R holds of each two entries, the earlier one first.
 abbrev pub Every : {A : Type 0} → (A → Type 0) → List A → Type 0
@@ -16,13 +15,11 @@ abbrev pub EachTwo : {A : Type 0} → (A → A → Type 0) → List A → Type 0
 EachTwo R [] = Unit {0}
 EachTwo R (a ∷ l) = Every (R a) l × EachTwo R l
 
--- the entries that pass the test, in order
-abbrev pub keep : {A : Type 0} → (A → Bool) → List A → List A
+abbrev pub keep : {A : Type 0} → (A → Bool) → List A → List A  -- the entries that pass the test, in order
 keep p [] = []
 keep p (a ∷ l) = elim (p a) [ true ↦ a ∷ keep p l | false ↦ keep p l ]
 
--- lists one after another
-abbrev pub concat : {A : Type 0} → List (List A) → List A
+abbrev pub concat : {A : Type 0} → List (List A) → List A  -- lists one after another
 concat [] = []
 concat (l ∷ ls) = l ++ concat ls
 
@@ -43,8 +40,7 @@ pub data Swaps {A : Type 0} (I : A → A → Type 0) : List A → List A → Typ
   after : {a : A} {l m : List A} → Swaps I l m → Swaps I (a ∷ l) (a ∷ m)
   then : {l m n : List A} → Swaps I l m → Swaps I m n → Swaps I l n
 
--- the same entries in whichever order
-abbrev pub Reordered : {A : Type 0} → List A → List A → Type 0
+abbrev pub Reordered : {A : Type 0} → List A → List A → Type 0  -- the same entries in whichever order
 Reordered {A = A} = Swaps (λ (a b : A). Unit {0})
 
 -- A job: its product, and its steps on it.
@@ -61,18 +57,6 @@ module _ {Step : Type 0} (owner : Step → ℕ) where
     pub own : Every (λ (j : Job Step). Every (λ (s : Step). owner s ≡ j .product) (j .steps)) jobs
     pub distinct : EachTwo (λ (j k : Job Step). j .product ≢ k .product) jobs
 
-  -- the steps of a product, and the entries of a log that are of its steps, in order
-  abbrev pub stepsOf : ℕ → List Step → List Step
-  stepsOf p = keep (λ s. eqb (owner s) p)
-
+  -- the entries of a log that are of a product's steps, in order
   abbrev pub entriesOf : {Answer : Type 0} → ℕ → List (Step × Answer) → List (Step × Answer)
   entriesOf p = keep (λ e. eqb (owner (e .0)) p)
-
-  -- steps of different products
-  abbrev pub Other : Step → Step → Type 0
-  Other s t = owner s ≢ owner t
-
-  -- The runs of m and n from x are alike: they end alike, and of each product the same steps stand in the same order with the same answers.
-  pub record Alike {State Answer : Type 0} (M : Machine State Step Answer) (x : State) (m n : List Step) : Type 0 where
-    pub ends : end M x m ≡ end M x n
-    pub answers : (p : ℕ) → entriesOf p (log M x m) ≡ entriesOf p (log M x n)

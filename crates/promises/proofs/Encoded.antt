@@ -21,15 +21,17 @@ use Rattle.shell.specs.Shell as shell
 use Rattle.shell.specs.Shell.{valuesIn, datasetOf}
 use Rattle.shell.specs.Encode as shell-encode
 use Rattle.shell.proofs.Round as shell-round
-use Rattle.table.specs.Table as table
-use Rattle.table.specs.Table.{elementsIn, elementPlaces}
+use Rattle.table.specs.Coded as table
+use Rattle.table.specs.Coded.{elementsIn}
+use Rattle.table.specs.Table.{elementPlaces}
 use Rattle.table.proofs.Places.{length-places, element-is, room}
 use Rattle.table.proofs.Round as table-round
 use Rattle.image.specs.Image.{shellValues, dataset, S, SCTL, SECR, beforeSECR, tableAt, element}
 use Rattle.image.specs.Obeys.{Obeys}
-use Rattle.image.specs.Rules.{verdict}
-use Rattle.image.proofs.Accepted.{obeys-bounds}
-use Rattle.image.proofs.Exact.{accepts}
+use Rattle.image.specs.Facts.{Facts}
+use Rattle.image.specs.Verdict.{verdict}
+use Rattle.image.proofs.Accepted.{facts-bounds}
+use Rattle.image.proofs.Exact.{accepted-exactly, obeys-facts}
 use Rattle.reads.specs.Card.{readShell, readTable, elements}
 use Rattle.reads.proofs.Counted.{length-counted, getD-counted}
 
@@ -41,7 +43,7 @@ part-bytes l a n b = bytes-take n (drop a l) (bytes-drop a l b)
 
 -- the S - 3 elements that a read of the chain table gave
 abbrev pub elementsRead : List ℕ → List ℕ
-elementsRead c = take (readTable c .count) (readTable c .elements)
+elementsRead c = take (S c - 3) (readTable c .elements)
 
 -- ---- the shell
 
@@ -57,9 +59,12 @@ dataset-again d b l k n p s =
 bit-front : (l : List ℕ) (n i : ℕ) → i < 8 * n → bit (take n l) i ≡ bit l i
 bit-front l n i h = bit-part l 0 n i h ∙ ap (bit l) (omega arith)
 
-module _ (c : List ℕ) (bytes : Bytes c) (z : verdict c .number ≡ 0) where
-  obeys : Obeys c
-  obeys = accepts c .0 z
+module _ (c : List ℕ) (bytes : Bytes c) (o : Obeys c) where
+  obeys : Facts c
+  obeys = obeys-facts c o
+
+  accepted : verdict c .number ≡ 0
+  accepted = accepted-exactly c .1 o
 
   -- the encoder takes the values where the buffer has room for the dataset
   shell-taken : (n : ℕ) → dataset c ≤ n → shell-encode.encodeNumber (shellValues c) n ≡ 0
@@ -76,14 +81,14 @@ module _ (c : List ℕ) (bytes : Bytes c) (z : verdict c .number ≡ 0) where
 
   padding-front : shell.padding (part c 4 (dataset c)) (dataset c) ≡ 0
   padding-front =
-      let b = obeys-bounds c obeys in
+      let b = facts-bounds c obeys in
       field-of-zeros (part c 4 (dataset c)) 160 (8 * (dataset c - 22))
       (λ j h. bit-front (drop 4 c) (dataset c) (160 + j) (omega arith) ∙ obeys .shell-padding (160 + j) (omega arith) (omega arith))
 
   checksum-front : shell.SECR (part c 4 (dataset c)) (dataset c) ≡ crc (shell.beforeSECR (part c 4 (dataset c)) (dataset c))
   unfolding SECR beforeSECR
   checksum-front =
-      let b = obeys-bounds c obeys in
+      let b = facts-bounds c obeys in
       field-cong (part c 4 (dataset c)) (drop 4 c) (8 * (dataset c - 2)) (8 * (dataset c - 2)) 16
       (λ j h. bit-front (drop 4 c) (dataset c) (8 * (dataset c - 2) + j) (omega arith))
       ∙ obeys .checksum ∙ ap crc (sym (take-take (dataset c - 2) (dataset c) (drop 4 c) (omega arith)))
@@ -94,8 +99,8 @@ module _ (c : List ℕ) (bytes : Bytes c) (z : verdict c .number ≡ 0) where
       × (shell-encode.encodeIn (readShell c .values) l ≡ part c 4 (dataset c) ++ drop (dataset c) l)
   unfolding readShell dataset
   shell-encoded l h =
-      let b = obeys-bounds c obeys in
-      rw z (
+      let b = facts-bounds c obeys in
+      rw accepted (
         shell-taken (length l) h,
         (rw values-front at (dataset-again (part c 4 (dataset c)) (part-bytes c 4 (dataset c) bytes) l)) (shell-taken (length l) h)
             (part-length c 4 (dataset c) (omega arith)) padding-front checksum-front,
@@ -109,23 +114,23 @@ module _ (c : List ℕ) (bytes : Bytes c) (z : verdict c .number ≡ 0) where
     where
       each : (i : ℕ) → i < length (elements c) → getD (elements c) i 0 ≡ getD (elementsIn (S c) (part c (tableAt c) (SCTL c))) i 0
       each i h =
-          let b = obeys-bounds c obeys in
+          let b = facts-bounds c obeys in
           let k : i < S c - 3 = omega (arith, length-counted (element c) 1 (S c - 3)) in
           getD-counted (element c) 1 (S c - 3) i k
           ∙ ap (λ (x : ℕ). field c (8 * tableAt c + Ψ (S c) * x) (Ψ (S c))) (omega arith)
           ∙ sym (element-is (Ψ (S c)) (S c - 3) i (part c (tableAt c) (SCTL c)) k ∙ field-part c (tableAt c) (SCTL c) (Ψ (S c) * i) (Ψ (S c)) (omega (arith, room (Ψ (S c)) i (S c - 3) k)))
 
   table-length : length (part c (tableAt c) (SCTL c)) ≡ SCTL c
-  table-length = let b = obeys-bounds c obeys in part-length c (tableAt c) (SCTL c) (omega arith)
+  table-length = let b = facts-bounds c obeys in part-length c (tableAt c) (SCTL c) (omega arith)
 
   table-decoded : table.decodeNumber (S c) (length (part c (tableAt c) (SCTL c))) ≡ 0
   table-decoded =
-      let b = obeys-bounds c obeys in
+      let b = facts-bounds c obeys in
       table-round.table-decoded-exactly (S c) (length (part c (tableAt c) (SCTL c))) .1 (b .s-least, (b .s-top, (table-length ∙ obeys .table-bytes, tt)))
 
   table-padding : table-round.padding (S c) (part c (tableAt c) (SCTL c)) ≡ 0
   table-padding =
-      let b = obeys-bounds c obeys in
+      let b = facts-bounds c obeys in
       let n = table-length in
       field-of-zeros (part c (tableAt c) (SCTL c)) (Ψ (S c) * (S c - 3)) (8 * length (part c (tableAt c) (SCTL c)) - Ψ (S c) * (S c - 3))
       (λ j h. bit-part c (tableAt c) (SCTL c) (Ψ (S c) * (S c - 3) + j) (omega arith)
@@ -134,7 +139,7 @@ module _ (c : List ℕ) (bytes : Bytes c) (z : verdict c .number ≡ 0) where
   elements-read : elementsRead c ≡ elementsIn (S c) (part c (tableAt c) (SCTL c))
   unfolding readTable
   elements-read =
-      rw z (take-at (elements c) (drop (length (elements c)) (replicate 252 0)) (S c - 3) (length-counted (element c) 1 (S c - 3)) ∙ elements-front)
+      rw accepted (take-at (elements c) (drop (length (elements c)) (replicate 252 0)) (S c - 3) (length-counted (element c) 1 (S c - 3)) ∙ elements-front)
 
   -- Into a buffer of SCTL bytes, the encoder takes S and the elements read, and writes the image's chain table.
   pub table-encoded : (l : List ℕ) → length l ≡ SCTL c

@@ -1,2 +1,6 @@
 pub mod ReadAgain
 pub mod Encoded
+pub mod Refused
+pub mod Taken
+pub mod Mixed
+pub mod Kept

@@ -1,1 +1,1 @@
-pub mod ReadAgain
+pub mod Demands

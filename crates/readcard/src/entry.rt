@@ -9,7 +9,7 @@ ghost use Prim.Native.Nat.{_≤_};
 ghost use lib.ListN.{length};
 ghost use Rattle.image.specs.Image.{sectors};
 ghost use Rattle.image.specs.Shape.{Shaped};
-ghost use Rattle.image.specs.Obeys.{Present};
+ghost use Rattle.image.specs.Facts.{Present};
 ghost use Rattle.reads.specs.Asked.{over};
 ghost use Rattle.reads.specs.Entry.{readEntry, readChain};
 

@@ -1,24 +1,26 @@
 -- What a refusal holds: its number is not 0, so every value is 0 and a lent buffer stays. Assumes nothing.
 use mathlib.Core.Path.{_≡_, refl}
+use mathlib.Core.Logic.{_≢_}
 use mathlib.Core.List.{List}
 use Prim.Native.Nat.{ℕ, zero, suc}
 use native.Mathlib.Omega.{arith}
 use lib.ListN.{replicate}
-use Rattle.rules.specs.Claim.{first}
+use Rattle.rules.specs.First.{first}
 use Rattle.rules.specs.Lowest.{lowest}
 use Rattle.image.specs.Image.{e#}
-use Rattle.image.specs.Rules.{rules, brokenAt, sharesAt, judged, verdict}
-use Rattle.reads.specs.Asked.{value, values, lent}
+use Rattle.image.specs.Rules.{rules}
+use Rattle.image.specs.Verdict.{brokenAt, sharesAt, judged, verdict}
+use Rattle.reads.specs.Asked.{orZero, orZeros, lent}
 
-pub value-refused : (n v : ℕ) → (n ≡ 0 → ⊥) → value n v ≡ 0
+pub value-refused : (n v : ℕ) → n ≢ 0 → orZero n v ≡ 0
 value-refused zero v h = absurd (h refl)
 value-refused (suc n) v h = refl
 
-pub values-refused : (n k : ℕ) (vs : List ℕ) → (n ≡ 0 → ⊥) → values n k vs ≡ replicate k 0
+pub values-refused : (n k : ℕ) (vs : List ℕ) → n ≢ 0 → orZeros n k vs ≡ replicate k 0
 values-refused zero k vs h = absurd (h refl)
 values-refused (suc n) k vs h = refl
 
-pub lent-refused : (n : ℕ) (l b : List ℕ) → (n ≡ 0 → ⊥) → lent n l b ≡ b
+pub lent-refused : (n : ℕ) (l b : List ℕ) → n ≢ 0 → lent n l b ≡ b
 lent-refused zero l b h = absurd (h refl)
 lent-refused (suc n) l b h = refl
 

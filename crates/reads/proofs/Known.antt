@@ -10,11 +10,12 @@ use Rattle.rules.specs.Claim.{Rule}
 use Rattle.chains.specs.Chain.{Sector, Chain}
 use Rattle.chains.proofs.Laws.{chain-short}
 use Rattle.chains.proofs.Order.{chain-first, chain-next, chain-sector}
-use Rattle.image.specs.Image.{S, isProduct, element, sectors, mark}
-use Rattle.image.specs.Rules.{Verdict, verdict}
-use Rattle.image.specs.Product.{Product, productAt, seenBy, seen, judgedBy, asked}
-use Rattle.image.specs.Shape.{shapeOf}
-use Rattle.image.specs.Answer.{checkOf}
+use Rattle.image.specs.Image.{S, element, sectors, mark}
+use Rattle.rules.specs.declared.Answer.{Answer}
+use Rattle.image.specs.Verdict.{isProduct, verdict}
+use Rattle.image.specs.Product.{Product, productAt}
+use Rattle.image.specs.Seen.{seenBy, seen, judgedBy, asked}
+use Rattle.image.specs.Check.{shapeOf, checkOf}
 use Rattle.image.specs.Found.{foundIn, foundOf}
 use Rattle.image.specs.declared.Shape.{Shape}
 use Rattle.image.specs.declared.Found.the-variants as F
@@ -23,7 +24,7 @@ use Rattle.image.proofs.Exact.{test-product}
 use Rattle.image.proofs.First.{sectors-head}
 use Rattle.image.proofs.Places.{own-sector}
 use Rattle.image.proofs.Stays.{chain-of}
-use Rattle.image.specs.Obeys.{Present}
+use Rattle.image.specs.Facts.{Present}
 
 -- an image accepted with the shape g, and a product of it
 pub record Known (c : List ℕ) (g : Shape) (j : ℕ) : Type 0 where
@@ -38,7 +39,7 @@ known-at c j z t =
     record { opened = o; is-there = t; there = record { obeys = o .obeys; is-product = test-product c j t } }
 
 -- a call whose verdict is v is refused with the number n and the entry e
-pub record Barred (v : Verdict) (n e : ℕ) : Type 0 where
+pub record Barred (v : Answer) (n e : ℕ) : Type 0 where
   pub number-is : v .number ≡ n
   pub entry-is : v .entry ≡ e
   pub some : n ≡ 0 → ⊥

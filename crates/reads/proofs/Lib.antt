@@ -1,7 +1,6 @@
 pub mod Given
 pub mod Counted
 pub mod Copied
-pub mod Asked
 pub mod Known
 pub mod Places
 pub mod Passed

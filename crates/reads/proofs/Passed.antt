@@ -1,17 +1,22 @@
--- A ticket read whose number is 0 has passed every check: the image is accepted, the entry is a product, and the rules 21 to 24 are kept.
+-- A read of one product whose number is 0 has passed every check: the image is accepted, the entry is a product, and a ticket's rules 21 to 24 are kept.
 -- Assumes nothing.
 use mathlib.Core.Path.{_≡_, refl}
 use mathlib.Core.Bool.{Bool, true, false}
-use mathlib.Core.List.{List}
+use mathlib.Core.List.{List, []}
 use Prim.Native.Nat.{ℕ, zero, suc}
 use native.Mathlib.Omega.{arith}
-use Rattle.rules.specs.Claim.{Kept, first}
+use Rattle.rules.specs.Claim.{Kept}
+use Rattle.rules.specs.First.{first}
 use Rattle.rules.proofs.ClaimLaws.{Numbered}
-use Rattle.image.specs.Image.{isProduct}
-use Rattle.image.specs.Rules.{verdict}
-use Rattle.image.specs.Product.{Product, productAt, seenBy, seen, named, judgedBy, asked}
+use Rattle.image.specs.Verdict.{isProduct, verdict}
+use Rattle.image.specs.Product.{Product, productAt}
+use Rattle.image.specs.Seen.{seenBy, seen, named, judgedBy, asked}
+use Rattle.image.specs.Facts.{Present}
+use Rattle.image.proofs.Exact.{test-product, accepts}
 use Rattle.image.proofs.Stops.{kept}
-use Rattle.reads.specs.Ticket.{ticketRules, timeIn, refusal}
+use Rattle.reads.specs.Values.{ticketRules, timeIn}
+use Rattle.reads.specs.Entry.{entryRefusal}
+use Rattle.reads.specs.Ticket.{ticketRefusal}
 
 pub record Passed (c : List ℕ) (j room : ℕ) : Type 0 where
   pub accepted : verdict c .number ≡ 0
@@ -26,8 +31,8 @@ named-zero zero j q = refl
 named-zero (suc n) j q = q
 
 module _ (c : List ℕ) (j room : ℕ) where
-  pub passed : refusal c j room .number ≡ 0 → Passed c j room
-  unfolding refusal asked seen
+  pub passed : ticketRefusal c j room .number ≡ 0 → Passed c j room
+  unfolding ticketRefusal asked seen
   passed q = go (verdict c .number) refl (isProduct c j) refl q
     where
       go : (n : ℕ) → verdict c .number ≡ n → (b : Bool) → isProduct c j ≡ b
@@ -42,8 +47,8 @@ module _ (c : List ℕ) (j room : ℕ) where
           }
 
   -- success names no entry
-  pub passed-entry : refusal c j room .number ≡ 0 → refusal c j room .entry ≡ 0
-  unfolding refusal asked seen
+  pub passed-entry : ticketRefusal c j room .number ≡ 0 → ticketRefusal c j room .entry ≡ 0
+  unfolding ticketRefusal asked seen
   passed-entry q = go (verdict c .number) (isProduct c j) q
     where
       go : (n : ℕ) (b : Bool) → judgedBy (seenBy n (verdict c .entry) b (productAt c j)) j (ticketRules room (timeIn c j)) .number ≡ 0
@@ -55,3 +60,14 @@ module _ (c : List ℕ) (j room : ℕ) where
           named-entry : (n : ℕ) → named n j .number ≡ 0 → named n j .entry ≡ 0
           named-entry zero q = refl
           named-entry (suc n) q = absurd (omega arith)
+
+-- a read of an entry or of its chain
+pub entry-passed : (c : List ℕ) (j : ℕ) → entryRefusal c j .number ≡ 0 → Present c j
+unfolding asked seen
+entry-passed c j q = go (verdict c .number) refl (isProduct c j) refl q
+  where
+    go : (n : ℕ) → verdict c .number ≡ n → (b : Bool) → isProduct c j ≡ b
+        → judgedBy (seenBy n (verdict c .entry) b (productAt c j)) j (λ p. []) .number ≡ 0 → Present c j
+    go (suc n) z b t w = absurd (omega arith)
+    go zero z false t w = absurd (omega arith)
+    go zero z true t w = record { obeys = accepts c .0 z; is-product = test-product c j t }

@@ -10,7 +10,7 @@ use Rattle.image.specs.Image.{e#, SCTL, entryAt, tableAt}
 use Rattle.image.specs.Bounds.{Bounds}
 use Rattle.image.specs.Shape.{Shaped}
 use Rattle.image.specs.declared.Shape.{Shape}
-use Rattle.reads.specs.Card.{directoryValues}
+use Rattle.reads.specs.Values.{directoryValues}
 
 -- the directory's six last values stand within the image
 pub tail-in : {c : List ℕ} → Bounds c → tableAt c + SCTL c + 6 ≤ length c

@@ -1,89 +1,123 @@
--- Every value read is the field at its place of the shell, directory, chain table, entry or product; the count of a chain is its length.
--- Assumes nothing.
-use mathlib.Core.Path.{_≡_, refl, sym, ap, _∙_}
+-- What each read gives where it is taken: its definition holds zeros, or an old buffer, only under a number that is not 0. Assumes nothing.
+use mathlib.Core.Path.{_≡_, refl, ap, _∙_}
 use mathlib.Core.List.{List, _++_}
-use Prim.Native.Nat.{ℕ, _+_, _-_, _<_}
+use Prim.Native.Nat.{ℕ, zero, suc, _+_, _-_, _≤_, _<_}
+use native.Mathlib.Decide.{decLt}
 use native.Mathlib.Omega.{arith}
-use lib.ListN.{length, getD, take, drop, replicate, List·getD-append}
-use lib.Seq.{getD-append-add, take-append-seam}
-use Rattle.fields.specs.declared.Layout.the-variants.{Shell, Head, Tail, Entry, Header}
+use lib.ListN.{length, getD, take, drop, replicate, length-append, length-drop, length-replicate, getD-replicate, List·getD-append, List·getD-eq-default}
+use lib.Seq.{getD-append-add, getD-drop}
+use Rattle.bits.specs.Bits.{field}
+use Rattle.bits.proofs.Laws.{field-lt}
 use Rattle.fields.specs.Lists as lists
-use Rattle.fields.specs.Lists.{listOf}
-use Rattle.fields.specs.Fields.{fields, valueAt}
-use Rattle.fields.proofs.Laws.{length-fields, getD-fields}
-use Rattle.chains.specs.Chain.{Chain}
-use Rattle.ticket.specs.Kind.{kind}
-use Rattle.image.specs.Image.{shellValues, S, SCTL, directoryAt, entryAt, tableAt, element, sectors, mark, product}
-use Rattle.image.specs.Rules.{verdict}
-use Rattle.image.proofs.Exact.{so-sectors}
-use Rattle.image.proofs.Stays.{so-mark}
+use Rattle.fields.specs.Fields.{fields}
+use Rattle.ticket.proofs.Limits.{limit-time, end-most}
+use Rattle.image.specs.Image.{shellValues, S, element, entryAt, sectors, mark, product}
+use Rattle.image.specs.Obeys.{Obeys}
+use Rattle.image.specs.Verdict.{verdict}
+use Rattle.image.proofs.Accepted.{facts-bounds}
+use Rattle.image.proofs.Exact.{accepted-exactly, obeys-facts}
+use Rattle.reads.specs.Values.{directoryValues, entryValues, timeIn, ticketEnd, extent}
+use Rattle.reads.specs.Asked.{orZero}
 use Rattle.reads.specs.Card.{readShell, readDirectory, readTable, elements}
-use Rattle.image.specs.Obeys.{Present}
-use Rattle.reads.specs.Entry.{refusal, readEntry, readChain}
-use Rattle.reads.specs.Ticket as ticket
-use Rattle.reads.specs.Ticket.{readTicket}
+use Rattle.reads.specs.Entry.{readEntry, readChain}
+use Rattle.reads.specs.Ticket.{ticketRefusal, readTicket, bufferAfter, fillOf, rest, restAt}
 use Rattle.reads.proofs.Counted.{length-counted, getD-counted}
+use Rattle.reads.proofs.Passed.{passed}
 
-module _ (c : List ℕ) (z : verdict c .number ≡ 0) where
-  pub shell-value : (i : ℕ) → i < 16 → getD (readShell c .values) i 0 ≡ valueAt Shell i (drop 4 c)
+-- zeros after a list, in place of as many
+zero-after : (l : List ℕ) (n i : ℕ) → length l ≤ i → getD (l ++ drop (length l) (replicate n 0)) i 0 ≡ 0
+zero-after l n i h =
+    ap (λ (k : ℕ). getD (l ++ drop (length l) (replicate n 0)) k 0) (omega arith)
+    ∙ getD-append-add l (drop (length l) (replicate n 0)) (i - length l) 0
+    ∙ getD-drop (length l) (replicate n 0) (i - length l) 0
+    ∙ zeros (length l + (i - length l))
+  where
+    zeros : (k : ℕ) → _≡_ {A = ℕ} (getD (replicate n 0) k 0) 0
+    zeros k = elim (decLt k n) [
+      | yes h ↦ getD-replicate {A = ℕ} n k 0 0 h
+      | no h ↦ List·getD-eq-default {A = ℕ} (replicate n 0) 0 {n = k} (omega (arith, length-replicate {A = ℕ} n 0))
+    ]
+
+-- ---- the whole card
+
+module _ (c : List ℕ) (o : Obeys c) where
+  accepted : verdict c .number ≡ 0
+  accepted = accepted-exactly c .1 o
+
+  pub shell-read : readShell c .values ≡ fields (drop 4 c) lists.shell
   unfolding readShell shellValues
-  shell-value i h = rw z (getD-fields (drop 4 c) (listOf Shell) i h)
+  shell-read = rw accepted
 
-  pub head-value : (i : ℕ) → i < 3 → getD (readDirectory c .values) i 0 ≡ valueAt Head i (drop (directoryAt c) c)
+  pub directory-read : readDirectory c .values ≡ directoryValues c
   unfolding readDirectory
-  head-value i h =
-      rw z
-      (List·getD-append (fields (drop (directoryAt c) c) lists.head) (fields (drop (tableAt c + SCTL c) c) lists.tail) 0 i (rw (length-fields (drop (directoryAt c) c) lists.head) h)
-      ∙ getD-fields (drop (directoryAt c) c) (listOf Head) i h)
+  directory-read = rw accepted
 
-  pub tail-value : (i : ℕ) → i < 4 → getD (readDirectory c .values) (3 + i) 0 ≡ valueAt Tail i (drop (tableAt c + SCTL c) c)
-  unfolding readDirectory
-  tail-value i h =
-      rw z
-      (ap (λ (n : ℕ). getD (fields (drop (directoryAt c) c) lists.head ++ fields (drop (tableAt c + SCTL c) c) lists.tail) (n + i) 0) (sym (length-fields (drop (directoryAt c) c) lists.head))
-      ∙ getD-append-add (fields (drop (directoryAt c) c) lists.head) (fields (drop (tableAt c + SCTL c) c) lists.tail) i 0
-      ∙ getD-fields (drop (tableAt c + SCTL c) c) (listOf Tail) i h)
-
-  -- SCT(i), and as many as there are
-  pub table-value : (i : ℕ) → i < S c - 3 → getD (readTable c .elements) i 0 ≡ element c (1 + i)
+  elements-read : readTable c .elements ≡ elements c ++ drop (length (elements c)) (replicate 252 0)
   unfolding readTable
-  table-value i h =
-      let n = length-counted (element c) 1 (S c - 3) in
-      rw z
-      (List·getD-append (elements c) (drop (length (elements c)) (replicate 252 0)) 0 i (omega arith)
-      ∙ getD-counted (element c) 1 (S c - 3) i h)
+  elements-read = rw accepted
 
   pub table-count : readTable c .count ≡ S c - 3
   unfolding readTable
-  table-count = rw z
+  table-count = rw accepted
 
-module _ (c : List ℕ) (j : ℕ) (z : refusal c j .number ≡ 0) where
-  pub entry-value : (i : ℕ) → i < 7 → getD (readEntry c j .values) i 0 ≡ valueAt Entry i (drop (entryAt c j) c)
+  pub table-length : length (readTable c .elements) ≡ 252
+  table-length =
+      let b = facts-bounds c (obeys-facts c o) in
+      let l : List ℕ = elements c in
+      let z : List ℕ = drop (length (elements c)) (replicate 252 0) in
+      ap length elements-read
+      ∙ omega (arith, length-append l z, length-counted (element c) 1 (S c - 3), length-drop (length l) (replicate {A = ℕ} 252 0), length-replicate {A = ℕ} 252 0)
+
+  -- SCT(i), and zeros after them
+  pub table-value : (i : ℕ) → i < S c - 3 → getD (readTable c .elements) i 0 ≡ element c (1 + i)
+  table-value i h =
+      ap (λ (l : List ℕ). getD l i 0) elements-read
+      ∙ List·getD-append (elements c) (drop (length (elements c)) (replicate 252 0)) 0 i (omega (arith, length-counted (element c) 1 (S c - 3)))
+      ∙ getD-counted (element c) 1 (S c - 3) i h
+
+  pub table-after : (i : ℕ) → S c - 3 ≤ i → getD (readTable c .elements) i 0 ≡ 0
+  table-after i h = ap (λ (l : List ℕ). getD l i 0) elements-read ∙ zero-after (elements c) 252 i (omega (arith, length-counted (element c) 1 (S c - 3)))
+
+-- ---- an entry, and its chain
+
+module _ (c : List ℕ) (j : ℕ) where
+  pub entry-read : readEntry c j .number ≡ 0 → readEntry c j .values ≡ entryValues c j
   unfolding readEntry
-  entry-value i h = rw z (getD-fields (drop (entryAt c j) c) (listOf Entry) i h)
+  entry-read z = rw z
 
-  -- the count is the length of the chain, the mark is its mark, and the sectors are its own, in order
-  pub chain-value : Present c j → {ss : List ℕ} {m : ℕ} → Chain (element c) (S c) j ss m
-      → (readChain c j .count ≡ length ss) × (readChain c j .mark ≡ m) × (take (length ss) (readChain c j .sectors) ≡ ss)
+  pub chain-read : readChain c j .number ≡ 0 → (readChain c j .mark ≡ mark c j) × (readChain c j .count ≡ length (sectors c j))
+      × (readChain c j .sectors ≡ sectors c j ++ drop (length (sectors c j)) (replicate 252 0))
   unfolding readChain
-  chain-value t {ss} d =
-      let fits = t .obeys .entries .1 in
-      let s = so-sectors c fits (t .is-product) d in
-      rw (z, s, so-mark c fits (t .is-product) d) (refl, refl, take-append-seam ss (drop (length ss) (replicate 252 0)))
+  chain-read z = rw z (refl, refl, refl)
 
-module _ (c : List ℕ) (j room : ℕ) (z : ticket.refusal c j room .number ≡ 0) where
-  pub header-value : (i : ℕ) → i < 3 → getD (readTicket c j room .header) i 0 ≡ valueAt Header i (product c j)
-  unfolding readTicket
-  header-value i h = rw z (getD-fields (product c j) (listOf Header) i h)
+-- ---- a ticket
 
-  pub ticket-value : (i : ℕ) → i < 22 → getD (readTicket c j room .values) i 0 ≡ valueAt kind i (product c j)
+module _ (c : List ℕ) (j room : ℕ) where
+  pub ticket-read : readTicket c j room .number ≡ 0
+      → (readTicket c j room .header ≡ fields (product c j) lists.head) × (readTicket c j room .values ≡ fields (product c j) lists.typ23)
+      × (readTicket c j room .end ≡ ticketEnd c j) × (readTicket c j room .mark ≡ mark c j) × (readTicket c j room .sectors ≡ length (sectors c j))
   unfolding readTicket
-  ticket-value i h = rw z (getD-fields (product c j) (listOf kind) i h)
+  ticket-read z = rw z (refl, refl, refl, refl, refl)
 
-  -- the number of sectors is the length of the chain
-  pub ticket-chain : Present c j → {ss : List ℕ} {m : ℕ} → Chain (element c) (S c) j ss m
-      → (readTicket c j room .sectors ≡ length ss) × (readTicket c j room .mark ≡ m)
+  pub fill-read : fillOf c j room .number ≡ 0 → fillOf c j room .end ≡ extent c j
+  unfolding fillOf
+  fill-read z = rw z
+
+  pub rest-read : readTicket c j room .number ≡ 0 → (rest c j room ≡ take (extent c j - 29) (drop 29 (product c j))) × (restAt c j room ≡ 29)
+  unfolding readTicket rest restAt
+  rest-read z = rw z (refl, refl)
+
+  -- EXP has 14 bits, and an ExpiryTime that is read is at most 1,439
+  pub end-read : readTicket c j room .end ≤ 23594399
   unfolding readTicket
-  ticket-chain t d =
-      let fits = t .obeys .entries .1 in
-      rw (z, so-sectors c fits (t .is-product) d, so-mark c fits (t .is-product) d) (refl, refl)
+  end-read = go (ticketRefusal c j room .number) refl
+    where
+      go : (n : ℕ) → ticketRefusal c j room .number ≡ n → orZero n (ticketEnd c j) ≤ 23594399
+      go zero z =
+          end-most (field (drop (entryAt c j) c) 26 14) (timeIn c j) (field-lt (drop (entryAt c j) c) 26 14)
+          (omega (arith, passed c j room z .rules-kept .1 .1 .1 .1 .1 .0, limit-time 9 refl))
+      go (suc n) z = omega arith
+
+pub buffer-read : (c : List ℕ) (j : ℕ) (b : List ℕ) → readTicket c j (length b) .number ≡ 0 → bufferAfter c j b ≡ product c j ++ drop (length (product c j)) b
+unfolding readTicket bufferAfter
+buffer-read c j b z = rw z

@@ -1,19 +1,14 @@
--- What the reads of the whole card answer: shell, directory, chain table. Assumes nothing.
+-- An annex: what the reads of the whole card answer: shell, directory, chain table. Assumes nothing.
 use Prim.Native.Nat.{ℕ, zero, suc, _+_, _-_}
 use mathlib.Core.List.{List, [], _∷_, _++_}
-use lib.ListN.{drop, replicate}
-use Rattle.fields.specs.Fields.{fields}
-use Rattle.fields.specs.Lists.{head, tail}
-use Rattle.image.specs.Image.{shellValues, S, SCTL, directoryAt, tableAt, element}
-use Rattle.image.specs.Rules.{verdict}
-use Rattle.reads.specs.Asked.{value, values, over}
+use lib.ListN.{replicate}
+use Rattle.image.specs.Image.{shellValues, S, element}
+use Rattle.image.specs.Verdict.{verdict}
+use Rattle.reads.specs.Values.{directoryValues}
+use Rattle.reads.specs.Asked.{orZero, orZeros, over}
 use Rattle.reads.specs.declared.ShellRead.{ShellRead}
 use Rattle.reads.specs.declared.DirectoryRead.{DirectoryRead}
 use Rattle.reads.specs.declared.TableRead.{TableRead}
-
--- "Directory sector": the three values before the entries, and the four after the chain table
-abbrev pub directoryValues : List ℕ → List ℕ
-directoryValues c = fields (drop (directoryAt c) c) head ++ fields (drop (tableAt c + SCTL c) c) tail
 
 -- f i, .., f (i + n - 1)
 unfoldable pub counted : (ℕ → ℕ) → ℕ → ℕ → List ℕ
@@ -27,11 +22,11 @@ elements c = counted (element c) 1 (S c - 3)
 -- "Shell record": its sixteen values
 unfoldable pub readShell : List ℕ → ShellRead
 readShell c =
-    record { number = verdict c .number; entry = verdict c .entry; values = values (verdict c .number) 16 (shellValues c) }
+    record { number = verdict c .number; entry = verdict c .entry; values = orZeros (verdict c .number) 16 (shellValues c) }
 
 unfoldable pub readDirectory : List ℕ → DirectoryRead
 readDirectory c =
-    record { number = verdict c .number; entry = verdict c .entry; values = values (verdict c .number) 7 (directoryValues c) }
+    record { number = verdict c .number; entry = verdict c .entry; values = orZeros (verdict c .number) 7 (directoryValues c) }
 
 -- the elements, and zeros after them
 unfoldable pub readTable : List ℕ → TableRead
@@ -39,6 +34,6 @@ readTable c =
     record {
       number = verdict c .number;
       entry = verdict c .entry;
-      count = value (verdict c .number) (S c - 3);
-      elements = values (verdict c .number) 252 (over (elements c) (replicate 252 0));
+      count = orZero (verdict c .number) (S c - 3);
+      elements = orZeros (verdict c .number) 252 (over (elements c) (replicate 252 0));
     }

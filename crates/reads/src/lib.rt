@@ -55,8 +55,10 @@ pub struct TicketRead {
     pub sectors: usize,
 }
 
-// What filling a buffer answers: the dataset's end, or the refusal.
-pub enum Filled {
-    End(usize),
-    Refused(usize, usize),
+// What filling a buffer answers: the dataset's end.
+#[repr(C)]
+pub struct Filled {
+    pub number: usize,
+    pub entry: usize,
+    pub end: usize,
 }

@@ -6,7 +6,7 @@ use Prim.Native.Nat.{ℕ, zero, suc, _*_}
 use native.Mathlib.Omega.{arith}
 use lib.ListN.{length, drop}
 use lib.Dec.{eqb, leb}
-use Rattle.rules.specs.Claim.{unless, first}
+use Rattle.rules.specs.First.{ifKept, first}
 use Rattle.rules.proofs.ClaimLaws.{orElse}
 use Rattle.fields.specs.Fields.{valueAt}
 use Rattle.fields.specs.declared.Layout.the-variants.{Entry, Header}
@@ -16,16 +16,18 @@ use Rattle.chains.specs.Packed.{markSaid}
 use Rattle.ticket.specs.declared.Form.the-variants.{Ticket, Other}
 use Rattle.ticket.specs.declared.Extent.the-variants.{End, Wrong}
 use Rattle.image.specs.Image.{S, entryAt, element, product}
-use Rattle.image.specs.Product.{Product, productAt, named}
+use Rattle.image.specs.Product.{Product, productAt}
+use Rattle.image.specs.Seen.{named}
 use Rattle.image.specs.Found as image
 use Rattle.image.specs.declared.Found.the-variants.{Not}
-use Rattle.reads.specs.Ticket.{refusal, ticketRules, timeIn, extent}
-use Rattle.readticket.specs.Checks.{roomIn, roomNumber, minutesIn, timeNumber, statedIn, soundIn, judgedBy, judgedIn}
+use Rattle.reads.specs.Ticket.{ticketRefusal}
+use Rattle.reads.specs.Values.{ticketRules, timeIn, extent}
+use Rattle.readticket.specs.Checks.{roomIn, roomNumber, minutesIn, timeNumber, statedIn, soundIn, judgedWith, judgedIn}
 use Rattle.readticket.specs.declared.checks.Stated.{Stated}
 use Rattle.readticket.specs.declared.checks.Room.the-variants.{Fits, Short}
 use Rattle.readticket.specs.declared.checks.Time.the-variants.{Minutes, Late}
 use Rattle.readticket.specs.declared.checks.Judged.the-variants.{Taken, Refused}
-use Rattle.reads.proofs.Asked.{asked-there}
+use Rattle.image.proofs.Asked.{asked-there}
 use Rattle.reads.proofs.Known.{found-not}
 use Rattle.image.proofs.Founds.{Finds}
 
@@ -38,7 +40,7 @@ in-order room time p =
     go (leb (p .size) room) (eqb (p .typ) typ) (eqb (p .revision) revision) (leb (leastOf kind) (4 * p .blocks)) (leb (4 * p .blocks) (p .size)) (leb time (limit kind 9))
   where
     go : (r t v l s m : Bool)
-        → unless r (unless t (unless v (unless l (unless s (unless m 0 24) 23) 23) 22) 22) 21
+        → ifKept r (ifKept t (ifKept v (ifKept l (ifKept s (ifKept m 0 24) 23) 23) 22) 22) 21
         ≡ orElse (roomNumber (cond r Fits Short)) (orElse (formNumber (cond (t && v) Ticket Other)) (orElse (extentNumber (cond (l && s) (End (4 * p .blocks)) Wrong)) (timeNumber (cond m (Minutes time) Late))))
     go false t v l s m = refl
     go true false v l s m = refl
@@ -60,23 +62,23 @@ minutes-are false t w q = absurd (let z : _≡_ {A = ℕ} 0 1 = cc in omega arit
 module _ (c : List ℕ) (j room : ℕ) where
   -- nothing is found: the image's own number, or 20
   pub at-product : {n e : ℕ} → image.foundOf c j ≡ Not n e → Refused n e ≡ judgedIn c j room
-  unfolding judgedIn refusal
+  unfolding judgedIn ticketRefusal
   at-product {n} {e} q =
       let s = found-not c j q (ticketRules room (timeIn c j)) in
       rw (s .number-is, s .entry-is) (go n (s .some))
     where
-      go : (n : ℕ) → (n ≡ 0 → ⊥) → Refused n e ≡ judgedBy n e (soundIn c j)
+      go : (n : ℕ) → (n ≡ 0 → ⊥) → Refused n e ≡ judgedWith n e (soundIn c j)
       go zero h = absurd (h refl)
       go (suc n) h = refl
 
-  refused-at : {n : ℕ} → refusal c j room ≡ named (suc n) j → Refused (suc n) j ≡ judgedIn c j room
+  refused-at : {n : ℕ} → ticketRefusal c j room ≡ named (suc n) j → Refused (suc n) j ≡ judgedIn c j room
   unfolding judgedIn
   refused-at q = rw q
 
   module _ {l n : ℕ} (k : Finds c j l n) where
-    numbered : refusal c j room
+    numbered : ticketRefusal c j room
         ≡ named (orElse (roomNumber (roomIn (length (product c j)) room)) (orElse (formNumber (formIn (valueAt Entry 2 (drop (entryAt c j) c)) (valueAt Header 2 (product c j)))) (orElse (extentNumber (extentIn (valueAt Header 0 (product c j)) (length (product c j)))) (timeNumber (minutesIn (timeIn c j)))))) j
-    unfolding refusal productAt
+    unfolding ticketRefusal productAt
     numbered =
         asked-there c j (ticketRules room (timeIn c j)) (k .accepted) (k .is-there)
         ∙ ap (λ (n : ℕ). named n j) (in-order room (timeIn c j) (productAt c j))

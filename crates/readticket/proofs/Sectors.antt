@@ -17,7 +17,7 @@ use Rattle.image.proofs.First.{product-size, length-sector}
 use Rattle.image.proofs.Shapes.{sector-is}
 use Rattle.image.proofs.Places.{cut, sector-in, count-few, size-in}
 use Rattle.reads.specs.Asked.{over}
-use Rattle.image.specs.Obeys.{Present}
+use Rattle.image.specs.Facts.{Present}
 use Rattle.reads.proofs.Known.{there-at}
 
 joined-append : (c is ks : List ℕ) → joined c (is ++ ks) ≡ joined c is ++ joined c ks

@@ -7,19 +7,20 @@ use lib.ListN.{length}
 use Rattle.ticket.proofs.Limits.{limit-time}
 use Rattle.image.specs.Image.{product}
 use Rattle.image.specs.Product.{productAt}
-use Rattle.image.specs.Shape.{shapeOf}
-use Rattle.reads.specs.Ticket.{timeIn, refusal}
+use Rattle.image.specs.Check.{shapeOf}
+use Rattle.reads.specs.Values.{timeIn}
+use Rattle.reads.specs.Ticket.{ticketRefusal}
 use Rattle.reads.proofs.Known.{Known, Barred, known-at}
 use Rattle.reads.proofs.Passed.{passed, passed-entry}
-use Rattle.readticket.specs.Checks.{soundIn, judgedBy, judgedIn}
+use Rattle.readticket.specs.Checks.{soundIn, judgedWith, judgedIn}
 use Rattle.readticket.specs.declared.checks.Sound.{Sound}
 use Rattle.readticket.specs.declared.checks.Judged.the-variants.{Taken, Refused}
 
 module _ (c : List ℕ) (j room : ℕ) where
   -- what is known where `judge` has taken the read
   pub record Taking (f : Sound) : Type 0 where
-    pub number-zero : refusal c j room .number ≡ 0
-    pub entry-zero : refusal c j room .entry ≡ 0
+    pub number-zero : ticketRefusal c j room .number ≡ 0
+    pub entry-zero : ticketRefusal c j room .entry ≡ 0
     pub sound-is : f ≡ soundIn c j
     pub known : Known c (shapeOf c) j
     pub room-enough : length (product c j) ≤ room
@@ -27,9 +28,9 @@ module _ (c : List ℕ) (j room : ℕ) where
 
   pub judged-taken : (f : Sound) → judgedIn c j room ≡ Taken f → Taking f
   unfolding judgedIn productAt
-  judged-taken f q = go (refusal c j room .number) refl q
+  judged-taken f q = go (ticketRefusal c j room .number) refl q
     where
-      go : (n : ℕ) → refusal c j room .number ≡ n → judgedBy n (refusal c j room .entry) (soundIn c j) ≡ Taken f → Taking f
+      go : (n : ℕ) → ticketRefusal c j room .number ≡ n → judgedWith n (ticketRefusal c j room .entry) (soundIn c j) ≡ Taken f → Taking f
       go (suc n) z w = absurd (let y : _≡_ {A = ℕ} 0 1 = cc in omega arith)
       go zero z w =
           let p = passed c j room z in
@@ -43,13 +44,13 @@ module _ (c : List ℕ) (j room : ℕ) where
             in-day = omega (arith, k .1 .1 .1 .1 .1 .0, limit-time 9 refl);
           }
 
-  pub judged-refused : {n e : ℕ} → judgedIn c j room ≡ Refused n e → Barred (refusal c j room) n e
+  pub judged-refused : {n e : ℕ} → judgedIn c j room ≡ Refused n e → Barred (ticketRefusal c j room) n e
   unfolding judgedIn
-  judged-refused {n} {e} q = go (refusal c j room .number) refl q
+  judged-refused {n} {e} q = go (ticketRefusal c j room .number) refl q
     where
-      go : (m : ℕ) → refusal c j room .number ≡ m → judgedBy m (refusal c j room .entry) (soundIn c j) ≡ Refused n e → Barred (refusal c j room) n e
+      go : (m : ℕ) → ticketRefusal c j room .number ≡ m → judgedWith m (ticketRefusal c j room .entry) (soundIn c j) ≡ Refused n e → Barred (ticketRefusal c j room) n e
       go zero z w = absurd (let y : _≡_ {A = ℕ} 0 1 = cc in omega arith)
       go (suc m) z w =
           let i : suc m ≡ n = cc in
-          let k : refusal c j room .entry ≡ e = cc in
+          let k : ticketRefusal c j room .entry ≡ e = cc in
           record { number-is = z ∙ i; entry-is = k; some = λ y. omega arith }

@@ -1,6 +1,6 @@
 -- The two calls that read a ticket: what each answers where the checks take the read and where they refuse it, and that they agree.
 -- Assumes nothing.
-use mathlib.Core.Path.{_≡_, refl, _∙_}
+use mathlib.Core.Path.{_≡_, refl, sym, ap, _∙_}
 use mathlib.Core.List.{List, [], _∷_}
 use Prim.Native.Nat.{ℕ, zero, suc, _+_, _-_, _^_, _≤_, _<_}
 use native.Mathlib.Omega.{arith}
@@ -15,10 +15,11 @@ use Rattle.image.specs.Image.{mark, sectors, product}
 use Rattle.image.specs.Product.{productAt}
 use Rattle.image.specs.Shape.{Shaped, sectorPlace}
 use Rattle.image.specs.declared.Shape.{Shape}
-use Rattle.reads.specs.Ticket.{refusal, endOf, readTicket, bufferAfter, extent, filledBy, fillOf, restBy, rest, restAt}
+use Rattle.reads.specs.Ticket.{ticketRefusal, readTicket, bufferAfter, fillOf, restBy, rest, restAt}
+use Rattle.reads.specs.Values.{ticketEnd, extent}
 use Rattle.reads.specs.declared.TicketRead.{TicketRead}
 use Rattle.readticket.specs.declared.checks.Sound.{Sound}
-use Rattle.reads.specs.declared.Filled.the-variants.{End, Refused}
+use Rattle.reads.specs.declared.Filled.{Filled}
 use Rattle.reads.proofs.Given.{value-refused, values-refused}
 use Rattle.reads.proofs.Known.{Barred}
 use Rattle.reads.proofs.Passed.{passed}
@@ -29,9 +30,8 @@ use Rattle.readticket.proofs.Taken.{Taking}
 abbrev answer : ℕ → ℕ → List ℕ → List ℕ → ℕ → ℕ → ℕ → TicketRead
 answer n e h v d m s = record { number = n; entry = e; header = h; values = v; end = d; mark = m; sectors = s }
 
-filled-refused : (n e x : ℕ) → (n ≡ 0 → ⊥) → Refused n e ≡ filledBy n e x
-filled-refused zero e x h = absurd (h refl)
-filled-refused (suc n) e x h = refl
+abbrev filled : ℕ → ℕ → ℕ → Filled
+filled n e x = record { number = n; entry = e; end = x }
 
 module _ (c : List ℕ) (j room : ℕ) where
   -- taken
@@ -58,60 +58,50 @@ module _ (c : List ℕ) (j room : ℕ) where
     unfolding fields
     header-is = rw (k .sound-is)
 
-    pub read-taken : {v : List ℕ} {d : ℕ} → v ≡ fields (product c j) (listOf kind) → d ≡ endOf c j
+    pub read-taken : {v : List ℕ} {d : ℕ} → v ≡ fields (product c j) (listOf kind) → d ≡ ticketEnd c j
         → answer 0 0 (f .blocks ∷ f .map ∷ f .revision ∷ []) v d (f .mark) (f .sectors) ≡ readTicket c j room
     unfolding readTicket
     read-taken b e = rw (header-is, k .number-zero, k .entry-zero, k .sound-is, b, e)
 
-    pub fill-taken : End (f .extent) ≡ fillOf c j room
+    pub fill-taken : filled 0 0 (f .extent) ≡ fillOf c j room
     unfolding fillOf
-    fill-taken = rw (k .number-zero, k .sound-is)
+    fill-taken = rw (k .number-zero, k .entry-zero, k .sound-is)
 
   -- refused
-  module _ {n e : ℕ} (s : Barred (refusal c j room) n e) where
+  module _ {n e : ℕ} (s : Barred (ticketRefusal c j room) n e) where
     pub read-refused : answer n e (0 ∷ 0 ∷ 0 ∷ []) (0 ∷ 0 ∷ 0 ∷ 0 ∷ 0 ∷ 0 ∷ 0 ∷ 0 ∷ 0 ∷ 0 ∷ 0 ∷ 0 ∷ 0 ∷ 0 ∷ 0 ∷ 0 ∷ 0 ∷ 0 ∷ 0 ∷ 0 ∷ 0 ∷ 0 ∷ []) 0 0 0 ≡ readTicket c j room
     unfolding readTicket
     read-refused =
-        rw (s .number-is, s .entry-is, values-refused n 3 (fields (product c j) (listOf Header)) (s .some), values-refused n 22 (fields (product c j) (listOf kind)) (s .some), value-refused n (endOf c j) (s .some), value-refused n (mark c j) (s .some), value-refused n (length (sectors c j)) (s .some))
+        rw (s .number-is, s .entry-is, values-refused n 3 (fields (product c j) (listOf Header)) (s .some), values-refused n 22 (fields (product c j) (listOf kind)) (s .some), value-refused n (ticketEnd c j) (s .some), value-refused n (mark c j) (s .some), value-refused n (length (sectors c j)) (s .some))
 
-    pub fill-refused : Refused n e ≡ fillOf c j room
+    pub fill-refused : filled n e 0 ≡ fillOf c j room
     unfolding fillOf
-    fill-refused = rw (s .number-is, s .entry-is) (filled-refused n e (extent c j) (s .some))
+    fill-refused = rw (s .number-is, s .entry-is, value-refused n (extent c j) (s .some))
 
 -- ---- the part of the second call
 
 -- what is known where `fill` has given the end x
 pub record Ending (c : List ℕ) (j room x : ℕ) : Type 0 where
-  pub number-zero : refusal c j room .number ≡ 0
+  pub number-zero : ticketRefusal c j room .number ≡ 0
   pub extent-is : x ≡ extent c j
   pub least : 32 ≤ x
   pub in-product : x ≤ length (product c j)
   pub in-room : length (product c j) ≤ room
 
 module _ (c : List ℕ) (j room : ℕ) where
-  pub fill-ends : {x : ℕ} → fillOf c j room ≡ End x → Ending c j room x
+  pub fill-ends : {d : Filled} → d ≡ fillOf c j room → d .number ≡ 0 → Ending c j room (d .end)
   unfolding fillOf productAt
-  fill-ends {x} q = go (refusal c j room .number) refl q
-    where
-      go : (n : ℕ) → refusal c j room .number ≡ n → filledBy n (refusal c j room .entry) (extent c j) ≡ End x → Ending c j room x
-      go (suc n) z w = absurd (let y : _≡_ {A = ℕ} 0 1 = cc in omega arith)
-      go zero z w =
-          let k = passed c j room z .rules-kept in
-          let e : x ≡ extent c j = cc in
-          record { number-zero = z; extent-is = e; least = rw e (k .1 .1 .1 .0); in-product = rw e (k .1 .1 .1 .1 .0); in-room = k .0 }
+  fill-ends {d} q y =
+      let z : ticketRefusal c j room .number ≡ 0 = sym (ap (λ (f : Filled). f .number) q) ∙ y in
+      let k = passed c j room z .rules-kept in
+      let e : d .end ≡ extent c j = ap (λ (f : Filled). f .end) q ∙ rw z in
+      record { number-zero = z; extent-is = e; least = rw e (k .1 .1 .1 .0); in-product = rw e (k .1 .1 .1 .1 .0); in-room = k .0 }
 
-  pub fill-barred : {n e : ℕ} → fillOf c j room ≡ Refused n e → Barred (refusal c j room) n e
+  pub fill-barred : {d : Filled} → d ≡ fillOf c j room → (d .number ≡ 0 → ⊥) → Barred (ticketRefusal c j room) (d .number) (d .entry)
   unfolding fillOf
-  fill-barred {n} {e} q = go (refusal c j room .number) refl q
-    where
-      go : (m : ℕ) → refusal c j room .number ≡ m → filledBy m (refusal c j room .entry) (extent c j) ≡ Refused n e → Barred (refusal c j room) n e
-      go zero z w = absurd (let y : _≡_ {A = ℕ} 0 1 = cc in omega arith)
-      go (suc m) z w =
-          let i : suc m ≡ n = cc in
-          let k : refusal c j room .entry ≡ e = cc in
-          record { number-is = z ∙ i; entry-is = k; some = λ y. omega arith }
+  fill-barred q h = record { number-is = sym (ap (λ (f : Filled). f .number) q); entry-is = sym (ap (λ (f : Filled). f .entry) q); some = h }
 
-  module _ {n e : ℕ} (s : Barred (refusal c j room) n e) where
+  module _ {n e : ℕ} (s : Barred (ticketRefusal c j room) n e) where
     pub rest-none : rest c j room ≡ []
     unfolding rest
     rest-none = rw (s .number-is) (go n (s .some))

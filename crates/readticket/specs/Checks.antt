@@ -1,4 +1,4 @@
--- The checks of a ticket read, 20 to 24: what each answers, and document 01's number of each answer; 22 and 23 are those of crate ticket.
+-- An annex: the checks of a ticket read, 20 to 24: what each answers, and document 01's number of each answer; 22 and 23 are those of crate ticket.
 -- Assumes nothing.
 use Prim.Native.Nat.{ℕ, zero, suc}
 use mathlib.Core.Bool.{cond}
@@ -11,7 +11,8 @@ use Rattle.ticket.specs.Kind.{kind, limit}
 use Rattle.image.specs.Image.{entryAt, sectors, mark, product}
 use Rattle.image.specs.declared.Found.{Found}
 use Rattle.image.specs.declared.Found.the-variants.{There, Not}
-use Rattle.reads.specs.Ticket.{refusal, extent, timeIn}
+use Rattle.reads.specs.Ticket.{ticketRefusal}
+use Rattle.reads.specs.Values.{extent, timeIn}
 use Rattle.readticket.specs.declared.checks.Room.{Room}
 use Rattle.readticket.specs.declared.checks.Room.the-variants.{Fits, Short}
 use Rattle.readticket.specs.declared.checks.Time.{Time}
@@ -73,9 +74,9 @@ soundIn c j = record {
   minutes = timeIn c j;
 }
 
-abbrev pub judgedBy : ℕ → ℕ → Sound → Judged
-judgedBy zero e f = Taken f
-judgedBy (suc n) e f = Refused (suc n) e
+abbrev pub judgedWith : ℕ → ℕ → Sound → Judged
+judgedWith zero e f = Taken f
+judgedWith (suc n) e f = Refused (suc n) e
 
 unfoldable pub judgedIn : List ℕ → ℕ → ℕ → Judged
-judgedIn c j room = judgedBy (refusal c j room .number) (refusal c j room .entry) (soundIn c j)
+judgedIn c j room = judgedWith (ticketRefusal c j room .number) (ticketRefusal c j room .entry) (soundIn c j)

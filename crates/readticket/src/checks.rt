@@ -11,7 +11,7 @@ use ticket::Extent;
 use ticket::Form;
 ghost use mathlib.Core.Path.{_≡_};
 ghost use Rattle.image.specs.Shape.{Shaped};
-ghost use Rattle.image.specs.Obeys.{Present};
+ghost use Rattle.image.specs.Facts.{Present};
 ghost use Rattle.readticket.specs.Checks.{foundNumber, foundEntry, statedIn, roomIn, minutesIn, judgedIn};
 
 // 1 to 11, or 20: the number of what was found, and the entry that it names.

@@ -70,8 +70,16 @@ pub fn fill(image: &[u8], entry: usize, buffer: &mut [u8]) -> Filled
     ensures { λ _. ⌜ now (buffer .exit) ≡ bufferAfter (now (image .entry)) entry (now (buffer .entry)) ⌝ }
 {
     match take(image, entry, buffer) {
-        Judged::Taken(sound) => Filled::End(sound.extent),
-        Judged::Refused(n, e) => Filled::Refused(n, e),
+        Judged::Taken(sound) => Filled {
+            number: 0,
+            entry: 0,
+            end: sound.extent,
+        },
+        Judged::Refused(number, entry) => Filled {
+            number,
+            entry,
+            end: 0,
+        },
     }
 }
 
@@ -81,9 +89,10 @@ pub fn rest<'a>(image: &[u8], entry: usize, buffer: &'a mut [u8]) -> &'a mut [u8
     ensures { λ r. ⌜ (r .ptr .0 ≡ buffer .entry .ptr .0) × (r .ptr .1 ≡ restAt (now (image .entry)) entry (length (now (buffer .entry))) + buffer .entry .ptr .1) ⌝ }
 {
     let d = fill(image, entry, buffer);
-    let Filled::End(end) = d else {
+    if d.number != 0 {
         return &mut buffer[0..0];
-    };
+    }
     let from = ticket::rest();
+    let end = d.end;
     &mut buffer[from..end]
 }

@@ -8,7 +8,9 @@ use native.Mathlib.Omega.{arith}
 use native.Mathlib.Decide.{decLt}
 use lib.Dec.{eqb}
 use borrow.Author.Tests.{eqb-true, eq-eqb, leb-true, le-leb, not-true}
-use Rattle.rules.specs.Claim.{Claim, _≡?_, _≤?_, _and_, every, Means, all, holds, Rule, rule, Kept, Fails, here, later, unless, first, rowsBefore, rowOf, FailsRow}
+use Rattle.rules.specs.Claim.{Claim, _≡?_, _≤?_, _and_, every, Means, Rule, rule, Kept, Fails, here, later}
+use Rattle.rules.specs.First.{all, holds, ifKept, first}
+use Rattle.rules.specs.Rows.{rowsBefore, rowOf, FailsRow}
 
 pub and-true : (a b : Bool) → (a && b) ≡ true → (a ≡ true) × (b ≡ true)
 and-true true b e = (refl, e)
@@ -51,6 +53,11 @@ abbrev pub Numbered : List Rule → Type 0
 Numbered [] = Unit {0}
 Numbered (r ∷ rs) = (1 ≤ r .number) × Numbered rs
 
+-- the number of a rule that fails is not 0
+pub fails-some : {n : ℕ} {rs : List Rule} → Fails rs n → Numbered rs → 1 ≤ n
+fails-some (here b) h = h .0
+fails-some (later m f) h = fails-some f (h .1)
+
 pub kept-fails : {n : ℕ} {rs : List Rule} → Fails rs n → Kept rs → ⊥
 kept-fails (here b) k = b (k .0)
 kept-fails (later m f) k = kept-fails f (k .1)
@@ -75,7 +82,7 @@ found (r ∷ rs) h = go (holds (r .claim)) refl (found rs (h .1))
     more m (none k) = none (m, k)
     more m (one a f) = one a (later m f)
 
-    go : (b : Bool) → holds (r .claim) ≡ b → Found rs (first rs) → Found (r ∷ rs) (unless b (first rs) (r .number))
+    go : (b : Bool) → holds (r .claim) ≡ b → Found rs (first rs) → Found (r ∷ rs) (ifKept b (first rs) (r .number))
     go true e ih = more (holds-means (r .claim) e) ih
     go false e ih = one (h .0) (here (false-means (r .claim) e))
 
@@ -90,7 +97,7 @@ first-append [] ss h = refl
 first-append (r ∷ rs) ss h = go (holds (r .claim)) (r .number) (h .0) (first-append rs ss (h .1))
   where
     go : (b : Bool) (n : ℕ) → 1 ≤ n → first (rs ++ ss) ≡ orElse (first rs) (first ss)
-        → unless b (first (rs ++ ss)) n ≡ orElse (unless b (first rs) n) (first ss)
+        → ifKept b (first (rs ++ ss)) n ≡ orElse (ifKept b (first rs) n) (first ss)
     go true n a e = e
     go false zero a e = absurd (omega arith)
     go false (suc n) a e = refl

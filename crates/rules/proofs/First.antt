@@ -3,9 +3,10 @@
 use mathlib.Core.Path.{_≡_, refl, subst}
 use mathlib.Core.Logic.{_↔_}
 use mathlib.Core.List.{List}
-use Prim.Native.Nat.{ℕ, _≤_}
+use Prim.Native.Nat.{ℕ, zero, suc, _≤_}
 use native.Mathlib.Omega.{arith}
-use Rattle.rules.specs.Claim.{Rule, Kept, Fails, first}
+use Rattle.rules.specs.Claim.{Rule, Kept, Fails, Answers, against, taken}
+use Rattle.rules.specs.First.{first}
 use Rattle.rules.proofs.ClaimLaws.{Numbered, Found, none, one, found, kept-fails, fails-one}
 
 module _ (rs : List Rule) (h : Numbered rs) where
@@ -40,5 +41,14 @@ module _ (rs : List Rule) (h : Numbered rs) where
   pub taken-exactly : (first rs ≡ 0) ↔ Kept rs
   taken-exactly = (kept-of-first, first-of-kept)
 
-  pub refused-exactly : (n : ℕ) → 1 ≤ n → (first rs ≡ n) ↔ Fails rs n
-  refused-exactly n l = (fails-of-first n l, first-of-fails n)
+  -- a call that has these rules alone, and names no entry
+  pub answers-exactly : (n e : ℕ) → ((first rs ≡ n) × (0 ≡ e)) ↔ Answers rs n e
+  answers-exactly n e = ((λ q. subst (Answers rs n) (q .1) (go n (q .0))), λ a. back a)
+    where
+      go : (n : ℕ) → first rs ≡ n → Answers rs n 0
+      go zero q = taken (kept-of-first q)
+      go (suc n) q = against (fails-of-first (suc n) (omega arith) q)
+
+      back : {n e : ℕ} → Answers rs n e → (first rs ≡ n) × (0 ≡ e)
+      back (against {n} f) = (first-of-fails n f, refl)
+      back (taken k) = (first-of-kept k, refl)

@@ -1,4 +1,4 @@
 pub mod ClaimLaws
 pub mod First
 pub mod LowestLaws
-pub mod WrittenLaws
+pub mod AnswerLaws

@@ -1,3 +1,5 @@
 pub mod Claim
+pub mod First
+pub mod Rows
 pub mod Lowest
-pub mod Written
+pub mod Answer

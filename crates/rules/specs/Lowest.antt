@@ -1,4 +1,4 @@
--- The lowest of 1, .., n that passes a test. Assumes nothing.
+-- An annex: the lowest of 1, .., n that passes a test. Assumes nothing.
 use Prim.Native.Nat.{ℕ, zero, suc}
 use mathlib.Core.Bool.{Bool, true, false}
 

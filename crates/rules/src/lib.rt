@@ -1,7 +1,6 @@
 // The numbers that a refusal gives (document 01, "Numbers given back"), each by its name. 0 is success.
 ghost use mathlib.Core.Path.{_≡_};
-ghost use Rattle.rules.specs.Claim.{unless};
-ghost use Rattle.rules.specs.Written.{writtenOf};
+ghost use Rattle.rules.specs.First.{ifKept};
 
 pub const WRONG_LENGTH: usize = 1;
 
@@ -54,23 +53,14 @@ pub const WRONG_FLAGS: usize = 91;
 
 // The number of a rule that is not kept, or that of the rules after it.
 pub fn need(number: usize, kept: bool, rest: usize) -> usize
-    ensures { λ r. ⌜ r ≡ unless kept rest number ⌝ }
+    ensures { λ r. ⌜ r ≡ ifKept kept rest number ⌝ }
 {
     if kept { rest } else { number }
 }
 
-// What a call that writes into a lent buffer answers.
-pub enum Written {
-    Done,
-    Refused(usize, usize),
-}
-
-// The answer of a call that names no entry.
-pub fn answered(number: usize) -> Written
-    ensures { λ r. ⌜ r ≡ writtenOf number ⌝ }
-{
-    if number == 0 {
-        return Written::Done;
-    }
-    Written::Refused(number, 0)
+// What a call answers that gives no other value: a number and an entry, 0 and 0 for success. It is C's card_answer.
+#[repr(C)]
+pub struct Answer {
+    pub number: usize,
+    pub entry: usize,
 }

@@ -9,11 +9,9 @@ use Rattle.crc.specs.Crc.{crc}
 use Rattle.fields.specs.Fields.{stores}
 use Rattle.fields.specs.Lists as lists
 use Rattle.fields.proofs.Laws.{length-stores}
-use Rattle.shell.specs.Shell.{datasetOf}
-use Rattle.rules.specs.declared.Written.{Written}
-use Rattle.rules.specs.declared.Written.the-variants.{Done}
-use Rattle.rules.specs.Written.{writtenOf, ifDone}
-use Rattle.shell.specs.Encode.{encodeNumber, encodeIn, bodyOf, dataset}
+use Rattle.shell.specs.Shell.{datasetOf, bodyOf, encodedShell}
+use Rattle.rules.specs.Answer.{says, ifDone}
+use Rattle.shell.specs.Encode.{encodeNumber, encodeIn}
 
 pub body-is : (vs : List ℕ) {s out : List ℕ} {n : ℕ} → s ≡ replicate n 0 → n ≡ datasetOf vs - 2 → out ≡ stores s lists.shell vs → out ≡ bodyOf vs
 unfolding bodyOf
@@ -31,8 +29,8 @@ last-two (y ∷ body) a b p q =
     rw e (ap (λ (l : List ℕ). y ∷ l) (last-two body a b p q))
 
 pub before-secr-is : (vs : List ℕ) {body : List ℕ} (rest : List ℕ) {e x : ℕ} → body ≡ bodyOf vs → e ≡ datasetOf vs - 2 → length rest ≡ 2
-    → x ≡ crc (take e (body ++ rest)) → set (set (body ++ rest) e (x / 256)) (e + 1) (x % 256) ≡ dataset vs
-unfolding dataset
+    → x ≡ crc (take e (body ++ rest)) → set (set (body ++ rest) e (x / 256)) (e + 1) (x % 256) ≡ encodedShell vs
+unfolding encodedShell
 before-secr-is vs [] b e r x = absurd (omega arith)
 before-secr-is vs (p ∷ []) b e r x = absurd (omega arith)
 before-secr-is vs (p ∷ q ∷ (z ∷ zs)) b e r x = absurd (omega arith)
@@ -43,14 +41,14 @@ before-secr-is vs {body} (p ∷ q ∷ []) {e} {x} b i r s =
 
 -- ---- the buffer
 
-pub done : (vs l : List ℕ) {z : List ℕ} → encodeNumber vs (length l) ≡ 0 → z ≡ dataset vs
-    → (Done ≡ writtenOf (encodeNumber vs (length l))) × (z ++ drop (datasetOf vs) l ≡ encodeIn vs l)
+pub done : (vs l : List ℕ) {z : List ℕ} → encodeNumber vs (length l) ≡ 0 → z ≡ encodedShell vs
+    → (says 0 0 ≡ says (encodeNumber vs (length l)) 0) × (z ++ drop (datasetOf vs) l ≡ encodeIn vs l)
 done vs l e d = rw (e, d) (refl, refl)
 
 kept : (n : ℕ) (new old : List ℕ) → (n ≡ 0 → ⊥) → old ≡ ifDone n new old
 kept zero new old h = absurd (h refl)
 kept (suc n) new old h = refl
 
-pub refused : (vs l : List ℕ) {n : ℕ} {r : Written} → n ≡ encodeNumber vs (length l) → (n ≡ 0 → ⊥) → r ≡ writtenOf n
-    → (r ≡ writtenOf (encodeNumber vs (length l))) × (l ≡ encodeIn vs l)
-refused vs l {n} e h a = rw (← e) (a, kept n (dataset vs ++ drop (datasetOf vs) l) l h)
+pub refused : (vs l : List ℕ) {n : ℕ} → n ≡ encodeNumber vs (length l) → (n ≡ 0 → ⊥)
+    → (says n 0 ≡ says (encodeNumber vs (length l)) 0) × (l ≡ encodeIn vs l)
+refused vs l {n} e h = rw (← e) (refl, kept n (encodedShell vs ++ drop (datasetOf vs) l) l h)

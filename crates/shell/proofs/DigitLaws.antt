@@ -9,7 +9,8 @@ use lib.Dec.{eqb, leb}
 use lib.Pow.{pow-pos, pow-mono, mod-pow-add}
 use lib.Bits.{bitAnd, bitOr, and-shr, or-shr, and-mod, or-mod, and-le-l}
 use borrow.Author.Tests.{eq-eqb, ne-eqb}
-use Rattle.rules.specs.Claim.{Claim, _≡?_, every, all, holds, unless}
+use Rattle.rules.specs.Claim.{Claim, _≡?_, every}
+use Rattle.rules.specs.First.{all, holds, ifKept}
 use Rattle.rules.proofs.ClaimLaws.{holds-means}
 use Rattle.shell.specs.Shell.{decimal}
 
@@ -31,9 +32,9 @@ abbrev aboveOne : ℕ → ℕ → ℕ → ℕ
 aboveOne a c d = bitAnd (bitAnd a (bitOr ((c + a * 2) % 16) ((d + a * 4) % 16))) 8
 
 abbrev each : Claim
-each = every 16 λ a. every 2 λ c. every 4 λ d. aboveOne a c d ≡? unless (leb a 9) 0 8
+each = every 16 λ a. every 2 λ c. every 4 λ d. aboveOne a c d ≡? ifKept (leb a 9) 0 8
 
-one-digit : (a c d : ℕ) → a < 16 → c < 2 → d < 4 → aboveOne a c d ≡ unless (leb a 9) 0 8
+one-digit : (a c d : ℕ) → a < 16 → c < 2 → d < 4 → aboveOne a c d ≡ ifKept (leb a 9) 0 8
 unfolding all
 one-digit a c d ha hc hd = holds-means each refl a ha c hc d hd
 
@@ -61,7 +62,7 @@ module _ (v s p : ℕ) (h : 0 < p) where
   carry-lt : 0 < s → carry < s
   carry-lt hs = div-lt-iff-lt-mul h .1 (rw (mul-comm s p) (mul-lt-mul-of-pos-right (mod-lt v h) hs))
 
-above-digit : (v k : ℕ) → k < 8 → digit (above v) k ≡ unless (leb (digit v k) 9) 0 8
+above-digit : (v k : ℕ) → k < 8 → digit (above v) k ≡ ifKept (leb (digit v k) 9) 0 8
 above-digit v k h =
     let p = 2 ^ (4 * k) in
     let z = pow-pos (4 * k) in
@@ -76,7 +77,7 @@ above-digit v k h =
 -- ---- the word
 
 -- with one digit more, a number is 0 where that digit is and the lower ones are
-more : (b : Bool) (p r : ℕ) → 0 < p → eqb (unless b 0 8 * p + r) 0 ≡ (eqb r 0 && b)
+more : (b : Bool) (p r : ℕ) → 0 < p → eqb (ifKept b 0 8 * p + r) 0 ≡ (eqb r 0 && b)
 more true p r h = let e : 0 * p + r ≡ r = omega arith in rw e (sym (and-true (eqb r 0)))
 more false p r h = ne-eqb (8 * p + r) 0 (λ e. omega arith) ∙ sym (and-false (eqb r 0))
 

@@ -3,7 +3,7 @@
 use mathlib.Core.Path.{_≡_, sym, ap, _∙_}
 use mathlib.Core.Logic.{_↔_, inr, ⊎-elim}
 use mathlib.Core.List.{List, [], _∷_, _++_}
-use Prim.Native.Nat.{ℕ, suc, _+_, _-_, _*_, _/_, _%_, _≤_, _<_}
+use Prim.Native.Nat.{ℕ, _+_, _-_, _*_, _/_, _%_, _≤_, _<_}
 use native.Mathlib.Omega.{arith}
 use lib.ListN.{length, getD, take, drop, replicate, length-append, length-take, length-drop, length-replicate, take-append-drop}
 use lib.Seq.{take-at, drop-at, length-take-le, getD-drop, getD-append-add}
@@ -17,32 +17,24 @@ use Rattle.fields.specs.declared.Layout.the-variants as layout
 use Rattle.fields.proofs.Joined.{lists-joined}
 use Rattle.fields.proofs.Laws.{fields-stores, stores-onto, bit-stores-out}
 use Rattle.fields.proofs.Same.{fields-same, fields-front}
-use Rattle.rules.specs.Claim.{Kept, Fails}
-use Rattle.rules.specs.declared.Written.{Written}
-use Rattle.rules.specs.Written.{writtenOf}
-use Rattle.rules.proofs.First.{kept-of-first, taken-exactly, refused-exactly}
+use Rattle.rules.specs.Claim.{Kept, Answers}
+use Rattle.rules.proofs.First.{kept-of-first, taken-exactly, answers-exactly}
 use Rattle.shell.specs.declared.Shell.{Shell}
-use Rattle.shell.specs.Shell.{valuesIn, datasetOf, padding, SECR, beforeSECR}
-use Rattle.shell.specs.Encode.{decodeOf, encodeRules, encodeNumber, encodeIn, bodyOf, secrBytes, dataset}
+use Rattle.shell.specs.Shell.{valuesIn, datasetOf, padding, SECR, beforeSECR, encodeRules, bodyOf, secrBytes, encodedShell}
+use Rattle.shell.specs.Encode.{decodeOf, encodeNumber, encodeIn}
 use Rattle.shell.proofs.Rules.{numbered, taken}
 use Rattle.shell.proofs.Dataset.{length-body}
 
 -- ---- exactly, in order, and one answer
 
--- taken exactly where every rule is kept; refused with a number exactly where a rule of that number is the first that fails
+-- taken exactly where every rule is kept; refused with a number exactly where a rule of that number is the first that is not, with entry 0
 pub encode-taken : (vs : List ℕ) (room : ℕ) → (encodeNumber vs room ≡ 0) ↔ Kept (encodeRules vs room)
 unfolding encodeNumber
 encode-taken vs room = taken-exactly (encodeRules vs room) (numbered vs room)
 
-pub encode-refused : (vs : List ℕ) (room n : ℕ) → 1 ≤ n → (encodeNumber vs room ≡ n) ↔ Fails (encodeRules vs room) n
+pub encode-exactly : (vs : List ℕ) (room n e : ℕ) → ((encodeNumber vs room ≡ n) × (0 ≡ e)) ↔ Answers (encodeRules vs room) n e
 unfolding encodeNumber
-encode-refused vs room n h = refused-exactly (encodeRules vs room) (numbered vs room) n h
-
-pub encode-unique : (vs l : List ℕ) {r r′ : Written} {m m′ : List ℕ}
-    → (r ≡ writtenOf (encodeNumber vs (length l))) × (m ≡ encodeIn vs l)
-    → (r′ ≡ writtenOf (encodeNumber vs (length l))) × (m′ ≡ encodeIn vs l)
-    → (r ≡ r′) × (m ≡ m′)
-encode-unique vs l p q = (p .0 ∙ sym (q .0), p .1 ∙ sym (q .1))
+encode-exactly vs room = answers-exactly (encodeRules vs room) (numbered vs room)
 
 -- ---- the dataset
 
@@ -55,25 +47,25 @@ unfolding bodyOf
 bit-body vs i h =
     bit-stores-out 0 lists.shell 160 (lists-joined layout.Shell) (replicate (datasetOf vs - 2) 0) vs i (inr h) ∙ bit-zeros (datasetOf vs - 2) i
 
-pub length-dataset : (vs : List ℕ) → 22 ≤ datasetOf vs → length (dataset vs) ≡ datasetOf vs
-unfolding dataset
+pub length-dataset : (vs : List ℕ) → 22 ≤ datasetOf vs → length (encodedShell vs) ≡ datasetOf vs
+unfolding encodedShell
 length-dataset vs h = omega (arith, length-append (bodyOf vs) (secrBytes (crc (bodyOf vs))), length-body vs)
 
-front-dataset : (vs : List ℕ) → take (datasetOf vs - 2) (dataset vs) ≡ bodyOf vs
-unfolding dataset
+front-dataset : (vs : List ℕ) → take (datasetOf vs - 2) (encodedShell vs) ≡ bodyOf vs
+unfolding encodedShell
 front-dataset vs = take-at (bodyOf vs) (secrBytes (crc (bodyOf vs))) (datasetOf vs - 2) (length-body vs)
 
-bit-dataset : (vs : List ℕ) (i : ℕ) → i < 8 * (datasetOf vs - 2) → bit (dataset vs) i ≡ bit (bodyOf vs) i
-unfolding dataset
+bit-dataset : (vs : List ℕ) (i : ℕ) → i < 8 * (datasetOf vs - 2) → bit (encodedShell vs) i ≡ bit (bodyOf vs) i
+unfolding encodedShell
 bit-dataset vs i h = bit-append-left (bodyOf vs) (secrBytes (crc (bodyOf vs))) i (omega (arith, length-body vs))
 
-last-byte : (vs : List ℕ) (k : ℕ) → getD (dataset vs) (datasetOf vs - 2 + k) 0 ≡ getD (secrBytes (crc (bodyOf vs))) k 0
-unfolding dataset
+last-byte : (vs : List ℕ) (k : ℕ) → getD (encodedShell vs) (datasetOf vs - 2 + k) 0 ≡ getD (secrBytes (crc (bodyOf vs))) k 0
+unfolding encodedShell
 last-byte vs k =
     rw (← length-body vs) (getD-append-add (bodyOf vs) (secrBytes (crc (bodyOf vs))) k 0)
 
-made : (vs : List ℕ) {b : List ℕ} → bodyOf vs ≡ b → dataset vs ≡ b ++ secrBytes (crc b)
-unfolding dataset
+made : (vs : List ℕ) {b : List ℕ} → bodyOf vs ≡ b → encodedShell vs ≡ b ++ secrBytes (crc b)
+unfolding encodedShell
 made vs e = rw e
 
 -- two bytes are one number, the first the high one
@@ -87,18 +79,18 @@ two-bytes l a h k =
 
 module _ (vs : List ℕ) (room : ℕ) (k : encodeNumber vs room ≡ 0) where
   -- what was encoded has zero padding and a right SECR
-  pub padding-zero : padding (dataset vs) (datasetOf vs) ≡ 0
+  pub padding-zero : padding (encodedShell vs) (datasetOf vs) ≡ 0
   padding-zero =
       let t = taken vs room k in
-      field-of-zeros (dataset vs) 160 (8 * (datasetOf vs - 22))
+      field-of-zeros (encodedShell vs) 160 (8 * (datasetOf vs - 22))
       (λ j h. bit-dataset vs (160 + j) (omega arith) ∙ bit-body vs (160 + j) (omega arith))
 
-  pub secr-right : SECR (dataset vs) (datasetOf vs) ≡ crc (beforeSECR (dataset vs) (datasetOf vs))
+  pub secr-right : SECR (encodedShell vs) (datasetOf vs) ≡ crc (beforeSECR (encodedShell vs) (datasetOf vs))
   secr-right =
       let b = crc-small (bodyOf vs) in
       let p = last-byte vs 0 in
       let q = last-byte vs 1 in
-      rw (front-dataset vs) (two-bytes (dataset vs) (datasetOf vs - 2) (omega arith) (omega arith) ∙ omega arith)
+      rw (front-dataset vs) (two-bytes (encodedShell vs) (datasetOf vs - 2) (omega arith) (omega arith) ∙ omega arith)
 
   values-body : length vs ≡ 16 → fields (bodyOf vs) lists.shell ≡ vs
   unfolding bodyOf encodeNumber
@@ -108,18 +100,18 @@ module _ (vs : List ℕ) (room : ℕ) (k : encodeNumber vs room ≡ 0) where
       (omega (arith, length-replicate {A = ℕ} (datasetOf vs - 2) 0))
       (record { many = n; low = kept-of-first (encodeRules vs room) (numbered vs room) k .0 })
 
-  values-dataset : length vs ≡ 16 → valuesIn (dataset vs) ≡ vs
+  values-dataset : length vs ≡ 16 → valuesIn (encodedShell vs) ≡ vs
   values-dataset n =
       let t = taken vs room k in
-      fields-same 0 lists.shell 160 (lists-joined layout.Shell) (dataset vs) (bodyOf vs) (λ i x y. bit-dataset vs i (omega arith)) ∙ values-body n
+      fields-same 0 lists.shell 160 (lists-joined layout.Shell) (encodedShell vs) (bodyOf vs) (λ i x y. bit-dataset vs i (omega arith)) ∙ values-body n
 
 module _ (vs l : List ℕ) (k : encodeNumber vs (length l) ≡ 0) where
   -- the buffer holds the dataset, and later bytes stay
-  pub encoded : encodeIn vs l ≡ dataset vs ++ drop (datasetOf vs) l
+  pub encoded : encodeIn vs l ≡ encodedShell vs ++ drop (datasetOf vs) l
   encoded = rw k
 
   pub later-stays : drop (datasetOf vs) (encodeIn vs l) ≡ drop (datasetOf vs) l
-  later-stays = ap (drop (datasetOf vs)) encoded ∙ drop-at (dataset vs) (drop (datasetOf vs) l) (datasetOf vs) (length-dataset vs (taken vs (length l) k .enough))
+  later-stays = ap (drop (datasetOf vs)) encoded ∙ drop-at (encodedShell vs) (drop (datasetOf vs) l) (datasetOf vs) (length-dataset vs (taken vs (length l) k .enough))
 
   -- decoding what was encoded gives the values back
   pub decode-encode : length vs ≡ 16 → decodeOf (take 20 (encodeIn vs l)) ≡ record { values = vs }
@@ -129,16 +121,12 @@ module _ (vs l : List ℕ) (k : encodeNumber vs (length l) ≡ 0) where
       shell-of
       (fields-front 0 lists.shell 160 (lists-joined layout.Shell) (encodeIn vs l) 20 (omega arith)
       ∙ ap (λ (m : List ℕ). fields m lists.shell) encoded
-      ∙ fields-same 0 lists.shell 160 (lists-joined layout.Shell) (dataset vs ++ drop (datasetOf vs) l) (dataset vs)
-      (λ i x y. bit-append-left (dataset vs) (drop (datasetOf vs) l) i (omega arith))
+      ∙ fields-same 0 lists.shell 160 (lists-joined layout.Shell) (encodedShell vs ++ drop (datasetOf vs) l) (encodedShell vs)
+      (λ i x y. bit-append-left (encodedShell vs) (drop (datasetOf vs) l) i (omega arith))
       ∙ values-dataset vs (length l) k n)
     where
       shell-of : {a : List ℕ} → a ≡ vs → _≡_ {A = Shell} (record { values = a }) (record { values = vs })
       shell-of e = rw e
-
--- refused, nothing is altered
-pub refused-stays : (vs l : List ℕ) (n : ℕ) → encodeNumber vs (length l) ≡ suc n → encodeIn vs l ≡ l
-refused-stays vs l n e = rw e
 
 -- ---- back: the bytes d of a dataset, whose values the encoder takes
 
@@ -183,18 +171,18 @@ module _ (d : List ℕ) (bytes : Bytes d) (room : ℕ) (k : encodeNumber (values
       two-of (a ∷ b ∷ []) x e p q = rw (p, q)
 
   -- encoding what was decoded gives the bytes back exactly where the padding is zero and SECR right
-  pub encode-decode : (dataset (valuesIn d) ≡ d)
+  pub encode-decode : (encodedShell (valuesIn d) ≡ d)
       ↔ ((padding d (datasetOf (valuesIn d)) ≡ 0) × (SECR d (datasetOf (valuesIn d)) ≡ crc (beforeSECR d (datasetOf (valuesIn d)))))
   encode-decode = (there, back)
     where
-      there : dataset (valuesIn d) ≡ d → (padding d (datasetOf (valuesIn d)) ≡ 0) × (SECR d (datasetOf (valuesIn d)) ≡ crc (beforeSECR d (datasetOf (valuesIn d))))
+      there : encodedShell (valuesIn d) ≡ d → (padding d (datasetOf (valuesIn d)) ≡ 0) × (SECR d (datasetOf (valuesIn d)) ≡ crc (beforeSECR d (datasetOf (valuesIn d))))
       there e = (
         ap (λ (l : List ℕ). padding l (datasetOf (valuesIn d))) (sym e) ∙ padding-zero (valuesIn d) room k,
         ap (λ (l : List ℕ). SECR l (datasetOf (valuesIn d))) (sym e) ∙ secr-right (valuesIn d) room k
             ∙ ap (λ (l : List ℕ). crc (beforeSECR l (datasetOf (valuesIn d)))) e,
       )
 
-      back : (padding d (datasetOf (valuesIn d)) ≡ 0) × (SECR d (datasetOf (valuesIn d)) ≡ crc (beforeSECR d (datasetOf (valuesIn d)))) → dataset (valuesIn d) ≡ d
+      back : (padding d (datasetOf (valuesIn d)) ≡ 0) × (SECR d (datasetOf (valuesIn d)) ≡ crc (beforeSECR d (datasetOf (valuesIn d)))) → encodedShell (valuesIn d) ≡ d
       back p =
           made (valuesIn d) (front-is (p .0)) ∙ ap (λ (z : List ℕ). take (datasetOf (valuesIn d) - 2) d ++ z) (sym (last-is (p .1)))
           ∙ take-append-drop (datasetOf (valuesIn d) - 2) d

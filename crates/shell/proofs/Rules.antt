@@ -7,11 +7,12 @@ use Prim.Native.Nat.{ℕ, _^_, _≤_, _<_}
 use native.Mathlib.Omega.{arith}
 use Rattle.fields.specs.Fields.{fit}
 use Rattle.fields.specs.Lists as lists
-use Rattle.rules.specs.Claim.{_≤?_, holds, Rule, rule, Fails, here, later, first}
+use Rattle.rules.specs.Claim.{_≤?_, Rule, rule, Fails, here, later}
+use Rattle.rules.specs.First.{holds, first}
 use Rattle.rules.proofs.ClaimLaws.{Numbered, holds-means, false-means, fails-in, fails-after, kept-both}
 use Rattle.rules.proofs.First.{kept-of-first, first-of-kept, fails-of-first, first-of-fails}
-use Rattle.shell.specs.Shell.{ShellLength, ShellBitMap, IIN, ISSN, CHD, datasetOf, formRules, digitRules}
-use Rattle.shell.specs.Encode.{encodeRules, encodeNumber}
+use Rattle.shell.specs.Shell.{ShellLength, ShellBitMap, IIN, ISSN, CHD, datasetOf, formRules, digitRules, encodeRules}
+use Rattle.shell.specs.Encode.{encodeNumber}
 
 pub numbered : (vs : List ℕ) (room : ℕ) → Numbered (encodeRules vs room)
 numbered vs room = omega arith

@@ -1,18 +1,18 @@
 -- The shell record (document 01, "Shell record"; 004, 4.1): its sixteen values, and the rules that they keep by themselves. Assumes nothing.
 use Prim.Native.Nat.{ℕ, _-_, _*_, _/_, _%_, _^_}
-use mathlib.Core.List.{List, [], _∷_}
-use lib.ListN.{getD, take}
+use mathlib.Core.List.{List, [], _∷_, _++_}
+use lib.ListN.{getD, take, replicate}
 use Rattle.bits.specs.Bits.{field}
-use Rattle.fields.specs.Fields.{fields}
+use Rattle.crc.specs.Crc.{crc}
+use Rattle.fields.specs.declared.Layout.the-variants as layout
+use Rattle.fields.specs.Fields.{fields, stores, packRules}
 use Rattle.fields.specs.Lists as lists
 use Rattle.rules.specs.Claim.{Claim, _≡?_, _≤?_, every, Rule, rule}
 
--- the sixteen values of the bytes d, the shell's first byte first
-abbrev pub valuesIn : List ℕ → List ℕ
+abbrev pub valuesIn : List ℕ → List ℕ  -- the sixteen values of the bytes d, the shell's first byte first
 valuesIn d = fields d lists.shell
 
--- the values by their names, vs all sixteen in order
-abbrev pub ShellLength : List ℕ → ℕ
+abbrev pub ShellLength : List ℕ → ℕ  -- the values by their names, vs all sixteen in order
 ShellLength vs = getD vs 0 0
 
 abbrev pub ShellBitMap : List ℕ → ℕ
@@ -39,32 +39,46 @@ entryCount vs = getD vs 14 0
 abbrev pub tableLength : List ℕ → ℕ
 tableLength vs = getD vs 15 0
 
--- the bytes of the dataset: ShellLength counts blocks of four (4.1.1)
-abbrev pub datasetOf : List ℕ → ℕ
+abbrev pub datasetOf : List ℕ → ℕ  -- the bytes of the dataset: ShellLength counts blocks of four (4.1.1)
 datasetOf vs = 4 * ShellLength vs
 
--- the n digits of four bits each of which v is made are decimal
-abbrev pub decimal : ℕ → ℕ → Claim
+abbrev pub decimal : ℕ → ℕ → Claim  -- the n digits of four bits each of which v is made are decimal
 decimal n v = every n λ i. v / 2 ^ (4 * i) % 16 ≤? 9
 
 -- number 5, of ShellBitMap and the bytes of the dataset: the map not 0, or the dataset under 22 bytes
 abbrev pub formRules : ℕ → ℕ → List Rule
 formRules map bytes = rule 5 (map ≡? 0) ∷ rule 5 (22 ≤? bytes) ∷ []
 
--- number 8, first half: a digit of IIN, ISSN or CHD above 9
-abbrev pub digitRules : ℕ → ℕ → ℕ → List Rule
+abbrev pub digitRules : ℕ → ℕ → ℕ → List Rule  -- number 8, first half: a digit of IIN, ISSN or CHD above 9
 digitRules iin issn chd = rule 8 (decimal 6 iin) ∷ rule 8 (decimal 7 issn) ∷ rule 8 (decimal 1 chd) ∷ []
 
 -- ---- what follows the sixteen values in a dataset of n bytes
 
--- the zero padding from byte 20 up to the checksum, as one number
-abbrev pub padding : List ℕ → ℕ → ℕ
+abbrev pub padding : List ℕ → ℕ → ℕ  -- the zero padding from byte 20 up to the checksum, as one number
 padding d n = field d 160 (8 * (n - 22))
 
--- SECR, the dataset's last two bytes
-abbrev pub SECR : List ℕ → ℕ → ℕ
+abbrev pub SECR : List ℕ → ℕ → ℕ  -- SECR, the dataset's last two bytes
 SECR d n = field d (8 * (n - 2)) 16
 
--- the bytes that SECR is computed over
-abbrev pub beforeSECR : List ℕ → ℕ → List ℕ
+abbrev pub beforeSECR : List ℕ → ℕ → List ℕ  -- the bytes that SECR is computed over
 beforeSECR d n = take (n - 2) d
+
+-- ---- encoding one (document 01, "Encoding what was read")
+
+-- the checks in order: 26 (a value too wide), 5, 8, and 21 (a buffer of `room` bytes is shorter than the dataset)
+abbrev pub encodeRules : List ℕ → ℕ → List Rule
+encodeRules vs room =
+    packRules layout.Shell vs
+    ++ (formRules (ShellBitMap vs) (datasetOf vs)
+    ++ (digitRules (IIN vs) (ISSN vs) (CHD vs)
+    ++ (rule 21 (datasetOf vs ≤? room)
+    ∷ [])))
+
+unfoldable pub bodyOf : List ℕ → List ℕ  -- the dataset before SECR: the sixteen values, then zero padding
+bodyOf vs = stores (replicate (datasetOf vs - 2) 0) lists.shell vs
+
+abbrev pub secrBytes : ℕ → List ℕ  -- a checksum's two bytes, the most significant first
+secrBytes x = x / 256 ∷ x % 256 ∷ []
+
+unfoldable pub encodedShell : List ℕ → List ℕ  -- the dataset: SECR is computed over the bytes before it
+encodedShell vs = bodyOf vs ++ secrBytes (crc (bodyOf vs))

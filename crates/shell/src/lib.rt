@@ -1,17 +1,17 @@
 // The shell record: its sixteen values, and the dataset that holds them with zero padding and SECR.
 use fields::Layout;
+use rules::Answer;
 use rules::TOO_LARGE;
 use rules::WRONG_DIGIT;
 use rules::WRONG_ROOM;
 use rules::WRONG_SHELL;
-use rules::Written;
 ghost use mathlib.Core.Path.{_≡_};
 ghost use Prim.Native.Nat.{_-_, _*_, _^_, _≤_, _<_};
 ghost use lib.ListN.{length};
-ghost use Rattle.rules.specs.Claim.{holds, first};
-ghost use Rattle.rules.specs.Written.{writtenOf};
-ghost use Rattle.shell.specs.Shell.{datasetOf, decimal, formRules, digitRules};
-ghost use Rattle.shell.specs.Encode.{decodeOf, encodeNumber, bodyOf, dataset, encodeIn};
+ghost use Rattle.rules.specs.First.{holds, first};
+ghost use Rattle.rules.specs.Answer.{says};
+ghost use Rattle.shell.specs.Shell.{datasetOf, decimal, formRules, digitRules, bodyOf, encodedShell};
+ghost use Rattle.shell.specs.Encode.{decodeOf, encodeNumber, encodeIn};
 
 // The sixteen values in the order of document 01.
 #[repr(C)]
@@ -128,7 +128,7 @@ fn write_body(s: &mut [u8], v: &[u64])
 // The dataset: the bytes before SECR, and SECR.
 fn write_dataset(s: &mut [u8], v: &[u64])
     requires { ⌜ (length (now v) ≡ 16) × (22 ≤ length (now s)) × (length (now s) ≡ datasetOf (now v)) ⌝ }
-    ensures { λ _. ⌜ now (s .exit) ≡ dataset (now (v .entry)) ⌝ }
+    ensures { λ _. ⌜ now (s .exit) ≡ encodedShell (now (v .entry)) ⌝ }
 {
     let end = s.len() - 2;
     write_body(&mut s[..end], v);
@@ -138,15 +138,21 @@ fn write_dataset(s: &mut [u8], v: &[u64])
 }
 
 // Writes the dataset of the values into the buffer; later bytes stay. Refused by 26, 5, 8 or 21, nothing is altered.
-pub fn encode(s: Shell, out: &mut [u8]) -> Written
-    ensures { λ r. ⌜ (r ≡ writtenOf (encodeNumber (s .values) (length (now (out .entry))))) × (now (out .exit) ≡ encodeIn (s .values) (now (out .entry))) ⌝ }
+pub fn encode(s: Shell, out: &mut [u8]) -> Answer
+    ensures { λ r. ⌜ (r ≡ says (encodeNumber (s .values) (length (now (out .entry)))) 0) × (now (out .exit) ≡ encodeIn (s .values) (now (out .entry))) ⌝ }
 {
     let v = s.values;
     let number = judge(&v, out.len());
     if number == 0 {
         let extent = 4 * (v[SHELL_LENGTH] as usize);
         write_dataset(&mut out[..extent], &v);
-        return Written::Done;
+        return Answer {
+            number: 0,
+            entry: 0,
+        };
     }
-    rules::answered(number)
+    Answer {
+        number: number,
+        entry: 0,
+    }
 }

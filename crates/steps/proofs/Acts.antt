@@ -9,29 +9,32 @@ use native.Mathlib.Omega.{arith}
 use Rattle.bits.specs.Bits.{Bytes}
 use Rattle.bits.proofs.Laws.{field-store}
 use Rattle.fields.specs.declared.Span.{Span}
-use Rattle.fields.specs.Lists.{span, listOf, startOf, endOf, nth}
-use Rattle.fields.specs.Fields.{stores}
-use Rattle.fields.specs.Shifted.{shifted}
+use Rattle.fields.specs.Lists.{span, listOf, bitAfter, nth}
+use Rattle.fields.specs.Ends.{startOf}
+use Rattle.fields.specs.Fields.{stores, shifted}
 use Rattle.fields.proofs.Joined.{lists-joined, within}
 use Rattle.fields.proofs.Only.{Inside, joined-inside, shifted-inside, Only, only-stores}
 use Rattle.chains.specs.Chain.{Sector, Ends, used, blocked, lastOf}
 use Rattle.chains.specs.Psi.{Ψ}
 use Rattle.chains.proofs.Laws.{last-ends, last-in, chain-sectors}
 use Rattle.chains.proofs.PsiLaws.{psi-is}
-use Rattle.rules.specs.Claim.{Kept, first}
+use Rattle.rules.specs.Claim.{Kept}
+use Rattle.rules.specs.First.{first}
 use Rattle.rules.proofs.ClaimLaws.{Numbered, found, Found, none, one, kept-fails}
 use Rattle.ticket.specs.Kind.{kind}
-use Rattle.image.specs.Image.{S, sectorAt, isProduct, element, sectors, mark}
-use Rattle.image.specs.Rules.{verdict}
+use Rattle.image.specs.Image.{S, sectorAt, element, sectors, mark}
+use Rattle.image.specs.Verdict.{isProduct, verdict}
 use Rattle.image.specs.Bounds.{Bounds}
-use Rattle.image.specs.Obeys.{IsProduct, Obeys}
-use Rattle.image.specs.Product.{Product, elementAt, productAt, seen}
+use Rattle.image.specs.Obeys.{IsProduct}
+use Rattle.image.specs.Facts.{Facts}
+use Rattle.image.specs.Product.{Product, elementAt, productAt}
+use Rattle.image.specs.Seen.{seen}
 use Rattle.image.proofs.Exact.{test-product, product-test, product-sector, accepts}
-use Rattle.image.proofs.Accepted.{obeys-bounds}
+use Rattle.image.proofs.Accepted.{facts-bounds}
 use Rattle.image.proofs.Same.{Spares, Same, same, spares-sector, spares-element, element-in}
 use Rattle.image.proofs.Stays.{chain-of}
-use Rattle.steps.specs.Step.{Step, write, writeAll, setMark, owner}
-use Rattle.steps.specs.Steps.{stepRules, answer, target, values, placesOf, valuesOf, next}
+use Rattle.steps.specs.Step.{Step, write, writeAll, setMark, owner, stepRules, target, newValues}
+use Rattle.steps.specs.Steps.{answer, placesOf, valuesOf, next}
 
 -- ---- whether a step is taken
 
@@ -43,11 +46,11 @@ numbered p (setMark j m) = omega arith
 
 -- a step that is taken: every rule holds, and it stores what it says where it says
 pub record Taken (c : List ℕ) (s : Step) : Type 0 where
-  pub obeyed : Obeys c
+  pub obeyed : Facts c
   pub present : IsProduct c (owner s)
   pub kept : Kept (stepRules (productAt c (owner s)) s)
   pub places : placesOf (seen c (owner s)) s ≡ target (productAt c (owner s)) s
-  pub stored : valuesOf (seen c (owner s)) s ≡ values (productAt c (owner s)) s
+  pub stored : valuesOf (seen c (owner s)) s ≡ newValues (productAt c (owner s)) s
   pub answered-zero : answer c s .number ≡ 0
 
 -- a step is refused and stores nowhere, or it is taken
@@ -89,7 +92,7 @@ refused-same c s h = go (act c s)
     go (idle p n) = rw p
     go (acts t) = absurd (omega (arith, t .answered-zero))
 
-pub kept-taken : (c : List ℕ) (s : Step) → Obeys c → IsProduct c (owner s) → Kept (stepRules (productAt c (owner s)) s) → Taken c s
+pub kept-taken : (c : List ℕ) (s : Step) → Facts c → IsProduct c (owner s) → Kept (stepRules (productAt c (owner s)) s) → Taken c s
 unfolding seen answer
 kept-taken c s o v k =
     let e = accepts c .1 o in
@@ -101,15 +104,15 @@ kept-taken c s o v k =
     go (none h) = refl
     go (one a h) = absurd (kept-fails h k)
 
-pub next-is : (c : List ℕ) (s : Step) → Taken c s → next c s ≡ stores c (target (productAt c (owner s)) s) (values (productAt c (owner s)) s)
+pub next-is : (c : List ℕ) (s : Step) → Taken c s → next c s ≡ stores c (target (productAt c (owner s)) s) (newValues (productAt c (owner s)) s)
 unfolding next
 next-is c s t = rw (t .places, t .stored)
 
 -- ---- the region that a step stores in
 
 abbrev pub region : List ℕ → Step → Span
-region c (write j n v) = span (8 * sectorAt c j + startOf kind) (endOf kind - startOf kind)
-region c (writeAll j vs) = span (8 * sectorAt c j + startOf kind) (endOf kind - startOf kind)
+region c (write j n v) = span (8 * sectorAt c j + startOf kind) (bitAfter kind - startOf kind)
+region c (writeAll j vs) = span (8 * sectorAt c j + startOf kind) (bitAfter kind - startOf kind)
 region c (setMark j m) = span (elementAt c (lastOf (sectors c j))) (Ψ (S c))
 
 -- the last sector of a step's chain
@@ -162,7 +165,7 @@ module _ (c : List ℕ) (b : Bytes c) where
       chain-sectors (element c) (S c) (own-sector s t) h (tail c s) (last-in (element c) (S c) (h .leads))
 
   pub in-bounds : (s : Step) → Taken c s → Bounds c
-  in-bounds s t = obeys-bounds c (t .obeyed)
+  in-bounds s t = facts-bounds c (t .obeyed)
 
   spares-write : (s : Step) (t : Taken c s) (l : ℕ) → Spares c l (8 * sectorAt c (owner s) + 16) 216
   spares-write s t l = spares-sector c (in-bounds s t) l (owner s) 16 216 (own-sector s t) (omega arith) (omega (arith, t .obeyed .size-least))

@@ -9,22 +9,23 @@ use native.Mathlib.Omega.{arith}
 use lib.ListN.{length}
 use Rattle.chains.specs.Chain.{Sector, lastOf}
 use Rattle.chains.specs.Packed.{markSaid}
-use Rattle.rules.specs.Claim.{first}
-use Rattle.image.specs.Image.{S, isProduct, element, sectors, mark}
-use Rattle.image.specs.Rules.{verdict}
+use Rattle.rules.specs.First.{first}
+use Rattle.image.specs.Image.{S, element, sectors, mark}
+use Rattle.rules.specs.Answer.{says}
+use Rattle.rules.proofs.AnswerLaws.{says-same}
+use Rattle.image.specs.Verdict.{isProduct, verdict}
 use Rattle.image.specs.Shape.{Shaped}
-use Rattle.image.specs.Product.{productAt, seenBy, seen}
+use Rattle.image.specs.Product.{productAt}
+use Rattle.image.specs.Seen.{seenBy, seen}
 use Rattle.image.specs.Found.{foundIn, foundOf}
 use Rattle.image.specs.declared.Shape.{Shape}
 use Rattle.image.specs.declared.Found.{Found}
 use Rattle.image.specs.declared.Found.the-variants.{Not}
 use Rattle.image.proofs.Exact.{product-test, accepts}
 use Rattle.image.proofs.Founds.{Finds}
-use Rattle.steps.specs.Step.{Step, owner}
-use Rattle.steps.specs.Steps.{stepRules, says, answer, next}
-use Rattle.steps.specs.Answers.{answered}
-use Rattle.image.specs.Obeys.{Present}
-use Rattle.steps.specs.declared.Answer.the-variants as A
+use Rattle.steps.specs.Step.{Step, owner, stepRules}
+use Rattle.steps.specs.Steps.{answer, next}
+use Rattle.image.specs.Facts.{Present}
 use Rattle.steps.proofs.Acts.{Taken, refused-same}
 
 -- ---- what is found
@@ -73,24 +74,32 @@ module _ {c : List ℕ} {g : Shape} (s : Shaped c g) where
 
 -- ---- the answer
 
+-- success names no entry
+pub taken-entry : (c : List ℕ) (s : Step) → answer c s .number ≡ 0 → answer c s .entry ≡ 0
+unfolding answer seen
+taken-entry c s z = go (verdict c .number) refl (isProduct c (owner s)) refl (first (stepRules (productAt c (owner s)) s)) refl z
+  where
+    go : (n : ℕ) → verdict c .number ≡ n → (b : Bool) → isProduct c (owner s) ≡ b → (r : ℕ) → first (stepRules (productAt c (owner s)) s) ≡ r
+        → answer c s .number ≡ 0 → answer c s .entry ≡ 0
+    go (suc n) e b f r g z = absurd (let w : _≡_ {A = ℕ} (suc n) 0 = (rw e at z) in omega arith)
+    go zero e false f r g z = absurd (let w : _≡_ {A = ℕ} 20 0 = (rw (e, f) at z) in omega arith)
+    go zero e true f (suc r) g z = absurd (let w : _≡_ {A = ℕ} (suc r) 0 = (rw (e, f, g) at z) in omega arith)
+    go zero e true f zero g z = rw (e, f, g)
+
 module _ (c : List ℕ) (s : Step) where
-  pub turned-answer : {n e : ℕ} → Turned c (owner s) n e → (A.Refused n e ≡ answered (answer c s)) × (c ≡ next c s)
+  pub turned-answer : {n e : ℕ} → Turned c (owner s) n e → (says n e ≡ answer c s) × (c ≡ next c s)
   turned-answer {n} {e} t =
       let q = t .answers s refl in
-      (rw q (refused n e (t .some)), sym (refused-same c s (rw q (t .some))))
-    where
-      refused : (n e : ℕ) → 1 ≤ n → A.Refused n e ≡ answered (says n e)
-      refused zero e h = absurd (omega arith)
-      refused (suc n) e h = refl
+      (sym q, sym (refused-same c s (rw q (t .some))))
 
   -- a rule of the step that fails
   pub failed-answer : (n : ℕ) → Present c (owner s) → first (stepRules (productAt c (owner s)) s) ≡ n → n ≢ 0
-      → (A.Refused n (owner s) ≡ answered (answer c s)) × (c ≡ next c s)
+      → (says n (owner s) ≡ answer c s) × (c ≡ next c s)
   unfolding answer seen
   failed-answer zero p e h = absurd (h refl)
   failed-answer (suc n) p e h =
       let q : answer c s ≡ says (suc n) (owner s) = rw (accepts c .1 (p .obeys), product-test c (owner s) (p .is-product), e) in
-      (rw q, sym (refused-same c s (rw q (omega arith))))
+      (sym q, sym (refused-same c s (rw q (omega arith))))
 
-  pub taken-answer : Taken c s → A.Taken ≡ answered (answer c s)
-  taken-answer t = rw (t .answered-zero)
+  pub taken-answer : Taken c s → says 0 0 ≡ answer c s
+  taken-answer t = says-same (sym (t .answered-zero)) (sym (taken-entry c s (t .answered-zero)))

@@ -3,26 +3,26 @@
 use mathlib.Core.Path.{_≡_, ap}
 use mathlib.Core.Logic.{inl, inr, ⊎-elim}
 use mathlib.Core.List.{List, [], _∷_}
-use Prim.Native.Nat.{ℕ, _+_, _-_, _*_}
+use Prim.Native.Nat.{ℕ, _+_, _-_, _*_, _≤_}
 use native.Mathlib.Omega.{arith}
 use lib.ListN.{length}
-use Rattle.bits.specs.Bits.{Bytes, bit}
-use Rattle.bits.proofs.Laws.{Outside}
+use Rattle.bits.specs.Bits.{Bytes, bit, Outside}
 use Rattle.fields.specs.declared.Span.{Span}
 use Rattle.fields.specs.Lists.{listOf, nth}
-use Rattle.fields.specs.Shifted.{shifted}
+use Rattle.fields.specs.Fields.{shifted}
 use Rattle.fields.proofs.Only.{Only, only-stores}
 use Rattle.fields.proofs.Laws.{length-stores}
 use Rattle.chains.specs.Chain.{In, lastOf}
 use Rattle.chains.specs.Psi.{Ψ}
 use Rattle.ticket.specs.Kind.{kind}
-use Rattle.image.specs.Image.{B, S, sectorAt, sectors}
+use Rattle.image.specs.Image.{B, S, SCTL, sectorAt, tableAt, sectors}
 use Rattle.image.specs.Product.{elementAt, productAt}
+use Rattle.image.proofs.Same.{element-in, before-directory}
 use Rattle.image.proofs.Stays.{chain-of}
 use Rattle.image.proofs.First.{first-in}
 use Rattle.steps.specs.Step.{Step, write, writeAll, setMark, owner}
 use Rattle.steps.specs.Steps.{next}
-use Rattle.steps.proofs.Acts.{Taken, Act, idle, acts, act, only, next-is, refused-same}
+use Rattle.steps.proofs.Acts.{Taken, Act, idle, acts, act, tail, only, tail-sector, own-sector, in-bounds, next-is, refused-same}
 use Rattle.steps.proofs.Keeps.{Where, body, link, where-is}
 
 pub field-frame : (c : List ℕ) (j n v : ℕ) → Bytes c → Taken c (write j n v)
@@ -50,6 +50,19 @@ frame c s b i apart away = go (act c s)
         out body =
             ⊎-elim (λ h. inl (omega arith)) (λ h. inr (omega (arith, t .obeyed .size-least))) (apart (owner s) (first-in (chain-of c (t .obeyed) (t .present) .leads)))
         out link = away
+
+-- no bit after the chain table: DIRS#, the instance identifier and the seal stay as they are
+pub after-table : (c : List ℕ) (s : Step) → Bytes c → (i : ℕ) → 8 * (tableAt c + SCTL c) ≤ i → bit (next c s) i ≡ bit c i
+unfolding tableAt
+after-table c s b i h = go (act c s)
+  where
+    go : Act c s → bit (next c s) i ≡ bit c i
+    go (idle e n) = ap (λ (l : List ℕ). bit l i) (refused-same c s n)
+    go (acts t) = only c b s t .outside i (inr (before (where-is c s)))
+      where
+        before : {p : Span} → Where c s p → p .0 + p .1 ≤ i
+        before body = omega (arith, before-directory c (in-bounds c b s t) (owner s) (own-sector c b s t), t .obeyed .size-least)
+        before link = omega (arith, element-in c (tail c s) (tail-sector c b s t) .1, in-bounds c b s t .elements-in)
 
 -- and no byte comes or goes
 pub length-next : (c : List ℕ) (s : Step) → length (next c s) ≡ length c

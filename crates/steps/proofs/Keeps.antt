@@ -2,7 +2,7 @@
 -- and its own mark unless it is a mark. For it stores in one region, which lies in the first sector of its chain or is the end of it.
 -- Assumes nothing.
 use mathlib.Core.Path.{_≡_, refl, sym, ap, ap₂, _∙_}
-use mathlib.Core.Logic.{_≢_, inl, inr}
+use mathlib.Core.Logic.{_↔_, _≢_, inl, inr}
 use mathlib.Core.Bool.{Bool, true, false}
 use mathlib.Core.List.{List, [], _∷_, _++_}
 use Prim.Native.Nat.{ℕ, _+_, _-_, _*_, _≤_}
@@ -21,18 +21,20 @@ use Rattle.fields.proofs.Only.{only-part}
 use Rattle.chains.specs.Chain.{Sector, In}
 use Rattle.chains.specs.Psi.{Ψ}
 use Rattle.chains.proofs.Laws.{last-in, chain-sectors}
-use Rattle.image.specs.Image.{B, S, e#, sectorAt, entryAt, tableAt, isProduct, element, sectors, mark, sector, joined, product}
-use Rattle.image.specs.Rules.{verdict}
+use Rattle.image.specs.Image.{shellValues, B, S, e#, sectorAt, entryAt, tableAt, element, sectors, mark, sector, joined, product}
+use Rattle.image.specs.Verdict.{isProduct, verdict}
 use Rattle.image.specs.Obeys.{IsProduct, Obeys, accepted}
-use Rattle.image.specs.Product.{Product, elementAt, productAt, seenBy, seen}
-use Rattle.image.proofs.Exact.{test-product, product-sector, exact}
+use Rattle.image.specs.Facts.{Facts}
+use Rattle.image.specs.Product.{Product, elementAt, productAt}
+use Rattle.image.specs.Seen.{seenBy, seen}
+use Rattle.image.proofs.Exact.{test-product, product-sector, exact, facts-obeys}
 use Rattle.image.proofs.Same.{element-in, sector-before, before-directory}
-use Rattle.image.proofs.Stays.{chain-of, no-common, entry-same, product-there, is-product-same, obeys, sectors-same, mark-same, mark-new}
+use Rattle.image.proofs.Stays.{chain-of, no-common, entry-same, product-there, product-back, is-product-same, obeys, sectors-same, mark-same, mark-new}
 use Rattle.image.proofs.First.{first-in, product-first, product-size}
 use Rattle.steps.specs.Step.{Step, write, writeAll, setMark, owner}
 use Rattle.steps.specs.Steps.{next}
 use Rattle.steps.specs.Touched.{forty}
-use Rattle.steps.proofs.Acts.{Taken, region, tail, newMark, only, tail-sector, in-bounds, kept-same, old-end, new-end}
+use Rattle.steps.proofs.Acts.{Taken, Act, idle, acts, act, refused-same, region, tail, newMark, only, tail-sector, in-bounds, kept-same, old-end, new-end}
 
 pub bytes-next : (c : List ℕ) (s : Step) → Bytes c → Bytes (next c s)
 unfolding next
@@ -49,11 +51,11 @@ where-is c (writeAll j vs) = body
 where-is c (setMark j m) = link
 
 -- an acceptable image has the verdict 0, 0
-pub verdict-ok : (c : List ℕ) → Obeys c → (verdict c .number ≡ 0) × (verdict c .entry ≡ 0)
-verdict-ok c o = exact c 0 0 .1 (accepted o)
+pub verdict-ok : (c : List ℕ) → Facts c → (verdict c .number ≡ 0) × (verdict c .entry ≡ 0)
+verdict-ok c o = exact c 0 0 .1 (accepted (facts-obeys c o))
 
 module _ (c : List ℕ) (b : Bytes c) (s : Step) (t : Taken c s) where
-  pub stays : Obeys (next c s)
+  pub stays : Facts (next c s)
   stays = obeys (t .obeyed) (kept-same c b s t) (old-end c b s t) (new-end c b s t)
 
   -- ---- entries and chains
@@ -63,6 +65,9 @@ module _ (c : List ℕ) (b : Bytes c) (s : Step) (t : Taken c s) where
 
   pub product-kept-there : {j : ℕ} → IsProduct c j → IsProduct (next c s) j
   product-kept-there v = product-there (t .obeyed) (kept-same c b s t) (old-end c b s t) (new-end c b s t) v
+
+  pub product-kept-back : {j : ℕ} → IsProduct (next c s) j → IsProduct c j
+  product-kept-back v = product-back (t .obeyed) (kept-same c b s t) (old-end c b s t) (new-end c b s t) v
 
   pub sectors-kept : (j : ℕ) → IsProduct c j → sectors (next c s) j ≡ sectors c j
   sectors-kept j v = sectors-same (t .obeyed) (kept-same c b s t) (old-end c b s t) (new-end c b s t) v
@@ -110,7 +115,7 @@ module _ (c : List ℕ) (b : Bytes c) (s : Step) (t : Taken c s) where
         λ e. no-common c o (t .present) v d (owner s, first-in (chain-of c o (t .present) .leads), rw e h),
       )))
     where
-      o : Obeys c
+      o : Facts c
       o = t .obeyed
 
   -- ---- what is seen of a product
@@ -153,3 +158,22 @@ module _ (c : List ℕ) (b : Bytes c) (s : Step) (t : Taken c s) where
       go : (x : Bool) → isProduct c j ≡ x → seenBy 0 (verdict (next c s) .entry) x (productAt (next c s) j) ≡ seenBy 0 (verdict c .entry) x (productAt c j)
       go true e = ap (λ (p : Product). seenBy 0 (verdict c .entry) true p) (product-same j (test-product c j e) (d (test-product c j e)))
       go false e = refl
+
+-- Any step, taken or refused, keeps an acceptable image acceptable, with its shell and its products, each with its sectors; every other product
+-- keeps its bytes and its mark.
+pub all-stays : (c : List ℕ) (s : Step) → Bytes c → Obeys c → Obeys (next c s) × (shellValues (next c s) ≡ shellValues c)
+    × ((j : ℕ) → IsProduct c j ↔ IsProduct (next c s) j) × ((j : ℕ) → IsProduct c j → sectors (next c s) j ≡ sectors c j)
+    × ((j : ℕ) → IsProduct c j → owner s ≢ j → (product (next c s) j ≡ product c j) × (mark (next c s) j ≡ mark c j))
+all-stays c s b o = go (act c s)
+  where
+    go : Act c s → Obeys (next c s) × (shellValues (next c s) ≡ shellValues c)
+        × ((j : ℕ) → IsProduct c j ↔ IsProduct (next c s) j) × ((j : ℕ) → IsProduct c j → sectors (next c s) j ≡ sectors c j)
+        × ((j : ℕ) → IsProduct c j → owner s ≢ j → (product (next c s) j ≡ product c j) × (mark (next c s) j ≡ mark c j))
+    go (idle e n) = rw (refused-same c s n) (o, refl, (λ j. ((λ v. v), λ v. v)), (λ j v. refl), λ j v d. (refl, refl))
+    go (acts t) = (
+      facts-obeys (next c s) (stays c b s t),
+      kept-same c b s t .values-same,
+      (λ j. (product-kept-there c b s t, product-kept-back c b s t)),
+      sectors-kept c b s t,
+      λ j v d. (product-kept c b s t j v d, mark-kept c b s t j v d),
+    )

@@ -4,5 +4,4 @@ pub mod Exactly
 pub mod Frame
 pub mod Keeps
 pub mod Touches
-pub mod Unique
 pub mod Written

@@ -1,26 +1,24 @@
--- A step touches no entry but the one it names, and that one only where it is taken; and a taken write of another value, or a new mark, does
--- touch it: for what was written is read. Assumes nothing.
+-- A step touches no entry but the one it names, and that one only where it is taken; and a step that changes the image does touch it: for a
+-- write that leaves its product as it was, and a mark that was there, change nothing. Assumes nothing.
 use mathlib.Core.Path.{_≡_, refl, sym, ap, _∙_}
-use mathlib.Core.Logic.{_≢_}
+use mathlib.Core.Logic.{_≢_, _⊎_, inl, inr, ⊎-elim}
 use mathlib.Core.List.{List, [], _∷_}
 use Prim.Native.Nat.{ℕ, zero, suc, _-_, _≤_}
 use native.Mathlib.Decide.{ℕ-discrete}
 use native.Mathlib.Omega.{arith}
 use lib.ListN.{length, getD}
-use lib.Seq.{getD-set-same}
 use Rattle.bits.specs.Bits.{Bytes}
-use Rattle.fields.specs.Lists.{listOf}
-use Rattle.fields.specs.Fields.{fields}
-use Rattle.fields.proofs.Laws.{length-fields}
+use Rattle.fields.specs.Lists.{listOf, nth}
 use Rattle.ticket.specs.Kind.{kind}
 use Rattle.image.specs.Image.{e#, sectors, mark, product}
 use Rattle.image.specs.Obeys.{IsProduct}
+use Rattle.image.specs.Product.{productAt}
 use Rattle.steps.specs.Step.{Step, write, writeAll, setMark, owner}
 use Rattle.steps.specs.Steps.{answer, next}
 use Rattle.steps.specs.Touched.{forty, Touched, entry, chain, marked, byte}
-use Rattle.steps.proofs.Acts.{Taken, Act, idle, acts, act, refused-same, kept-same, numbers}
+use Rattle.steps.proofs.Acts.{Taken, Act, idle, acts, act, next-is, refused-same, kept-same, numbers, place-inside, ticket-inside}
 use Rattle.steps.proofs.Keeps.{entry-kept, product-kept-there, sectors-kept, mark-kept, mark-own, product-kept, size-kept}
-use Rattle.steps.proofs.Written.{record-read, field-read}
+use Rattle.steps.proofs.Written.{unwritten, mark-again}
 
 -- entry j is as it was
 pub record Untouched (c d : List ℕ) (j : ℕ) : Type 0 where
@@ -69,34 +67,36 @@ untouched c s j b d = go (act c s)
 
 -- ---- what does touch
 
--- lists of one length that are not equal differ somewhere
-pub differ : (l m : List ℕ) → length l ≡ length m → (l ≡ m → ⊥) → (k : ℕ) × (getD l k 0 ≢ getD m k 0)
-differ [] [] e d = absurd (d refl)
-differ [] (y ∷ m) e d = absurd (omega arith)
-differ (x ∷ l) [] e d = absurd (omega arith)
-differ (x ∷ l) (y ∷ m) e d = elim (ℕ-discrete x y) [
-  | no h ↦ (zero, h)
-  | yes h ↦ let r = differ l m (omega arith) (λ q. d (rw (h, q))) in (suc (r .0), r .1)
+-- lists of one length are equal, or differ somewhere
+pub differ : (l m : List ℕ) → length l ≡ length m → (l ≡ m) ⊎ ((k : ℕ) × (getD l k 0 ≢ getD m k 0))
+differ [] [] e = inl refl
+differ [] (y ∷ m) e = absurd (omega arith)
+differ (x ∷ l) [] e = absurd (omega arith)
+differ (x ∷ l) (y ∷ m) e = elim (ℕ-discrete x y) [
+  | no h ↦ inr (zero, h)
+  | yes h ↦ ⊎-elim (λ (q : l ≡ m). inl (rw (h, q))) (λ r. inr (suc (r .0), r .1)) (differ l m (omega arith))
 ]
 
 module _ (c : List ℕ) (b : Bytes c) where
-  bytes-touched : (s : Step) → Taken c s → (product (next c s) (owner s) ≡ product c (owner s) → ⊥) → Touched c (next c s) (owner s)
-  bytes-touched s t d =
-      let r = differ (product (next c s) (owner s)) (product c (owner s)) (size-kept c b s t (owner s) (t .present)) d in
-      byte (r .0) (t .present) (r .1)
+  bytes-touched : (s : Step) (t : Taken c s) → (product (next c s) (owner s) ≡ product c (owner s) → next c s ≡ c) → next c s ≢ c → Touched c (next c s) (owner s)
+  bytes-touched s t w d =
+      ⊎-elim (λ e. absurd (d (w e))) (λ r. byte (r .0) (t .present) (r .1))
+      (differ (product (next c s) (owner s)) (product c (owner s)) (size-kept c b s t (owner s) (t .present)))
 
-  pub write-touches : (j n v : ℕ) → Taken c (write j n v) → getD (fields (product c j) (listOf kind)) (n - 1) 0 ≢ v → Touched c (next c (write j n v)) j
-  write-touches j n v t d =
-      let h = numbers c j n v t in
-      let l = length-fields (product c j) (listOf kind) in
-      bytes-touched (write j n v) t (λ e. d (
-      ap (λ (p : List ℕ). getD (fields p (listOf kind)) (n - 1) 0) (sym e)
-      ∙ ap (λ (vs : List ℕ). getD vs (n - 1) 0) (field-read c b j n v t)
-      ∙ getD-set-same (fields (product c j) (listOf kind)) (n - 1) v 0 (omega arith)))
+  taken-touches : (s : Step) → Taken c s → next c s ≢ c → Touched c (next c s) (owner s)
+  unfolding productAt
+  taken-touches (write j n v) t d =
+      let k = place-inside n (numbers c j n v t) in
+      bytes-touched (write j n v) t
+      (unwritten c b (write j n v) t (nth (listOf kind) (n - 1) ∷ []) (v ∷ []) ((omega (arith, k), omega (arith, k)), tt) (next-is c (write j n v) t)) d
+  taken-touches (writeAll j vs) t d =
+      bytes-touched (writeAll j vs) t (unwritten c b (writeAll j vs) t (listOf kind) vs ticket-inside (next-is c (writeAll j vs) t)) d
+  taken-touches (setMark j m) t d = marked (t .present) (λ e. d (mark-again c j m b (sym e ∙ mark-own c b (setMark j m) t)))
 
-  pub record-touches : (j : ℕ) (vs : List ℕ) → Taken c (writeAll j vs) → (fields (product c j) (listOf kind) ≡ vs → ⊥) → Touched c (next c (writeAll j vs)) j
-  record-touches j vs t d =
-      bytes-touched (writeAll j vs) t (λ e. d (ap (λ (p : List ℕ). fields p (listOf kind)) (sym e) ∙ record-read c b j vs t))
-
-  pub mark-touches : (j m : ℕ) → Taken c (setMark j m) → mark c j ≢ m → Touched c (next c (setMark j m)) j
-  mark-touches j m t d = marked (t .present) (λ e. d (sym e ∙ mark-own c b (setMark j m) t))
+-- a step that changes the image touches the entry that it names
+pub touches : (c : List ℕ) (s : Step) → Bytes c → next c s ≢ c → Touched c (next c s) (owner s)
+touches c s b d = go (act c s)
+  where
+    go : Act c s → Touched c (next c s) (owner s)
+    go (idle p n) = absurd (d (refused-same c s n))
+    go (acts t) = taken-touches c b s t d

@@ -7,15 +7,14 @@ use Prim.Native.Nat.{ℕ, _+_, _-_, _*_, _≤_, _<_}
 use native.Mathlib.Nat.{mul-le-mul-right}
 use native.Mathlib.Decide.{ℕ-discrete}
 use native.Mathlib.Omega.{arith}
-use lib.ListN.{length, getD, set, drop}
+use lib.ListN.{length, getD, set, take, drop}
 use lib.Seq.{getD-set-same, getD-set-other}
 use Rattle.bits.specs.Bits.{Bytes}
 use Rattle.bits.proofs.Laws.{store-store, store-field, bytes-take, bytes-drop}
 use Rattle.fields.specs.declared.Span.{Span}
 use Rattle.fields.specs.Lists.{listOf, nth}
-use Rattle.fields.specs.Fields.{fields, stores, limitOf, limits}
+use Rattle.fields.specs.Fields.{fields, stores, limitOf, limits, shifted}
 use Rattle.fields.specs.Together.{Fit}
-use Rattle.fields.specs.Shifted.{shifted}
 use Rattle.fields.proofs.Joined.{lists-joined}
 use Rattle.fields.proofs.Laws.{getD-limits, length-limits, fields-stores, fields-store, length-stores}
 use Rattle.fields.proofs.Only.{Inside}
@@ -24,15 +23,17 @@ use Rattle.chains.specs.Chain.{Sector, Ends, fresh, used, blocked, In, Distinct
 use Rattle.chains.proofs.Laws.{chain-sectors}
 use Rattle.ticket.specs.Kind.{kind, mostOf}
 use Rattle.image.specs.Image.{B, S, sectorAt, element, sectors, mark, sector, joined, product}
-use Rattle.image.specs.Obeys.{IsProduct, Obeys}
-use Rattle.image.specs.Product.{Seen, elementAt, productAt, seen}
+use Rattle.image.specs.Obeys.{IsProduct}
+use Rattle.image.specs.Facts.{Facts}
+use Rattle.image.specs.Seen.{Seen, seen}
+use Rattle.image.specs.Product.{elementAt, productAt}
 use Rattle.image.proofs.Same.{before-directory}
 use Rattle.image.proofs.Stays.{chain-of}
-use Rattle.image.proofs.First.{sectors-head, length-sector, bytes-joined, product-size}
-use Rattle.steps.specs.Step.{Step, write, writeAll, setMark, owner}
-use Rattle.steps.specs.Steps.{stepRules, answer, target, values, placesOf, valuesOf, next}
+use Rattle.image.proofs.First.{sectors-head, length-sector, bytes-joined, product-size, first-sector}
+use Rattle.steps.specs.Step.{Step, write, writeAll, setMark, owner, stepRules, target, newValues}
+use Rattle.steps.specs.Steps.{answerOf, answer, placesOf, valuesOf, next}
 use Rattle.steps.proofs.Acts.{Taken, Act, idle, acts, act, next-is, refused-same, kept-taken, numbers, place-inside, ticket-inside, kept-mark, own-sector, in-bounds, kept-same, old-end, newMark}
-use Rattle.steps.proofs.Keeps.{sectors-kept, joined-kept, mark-own, mark-kept, seen-marked, bytes-next}
+use Rattle.steps.proofs.Keeps.{stays, product-kept-there, sectors-kept, joined-kept, mark-own, mark-kept, seen-marked, bytes-next}
 
 -- ---- limits
 
@@ -59,7 +60,7 @@ value-fits c j n v t = let r = t .kept .1 .1 .1 .1 .1 in omega (arith, limit-low
 
 -- ---- a write stores into the product
 
-in-first : {c : List ℕ} → Obeys c → (ps : List Span) → Inside 16 216 ps → Inside 0 (8 * B c) ps
+in-first : {c : List ℕ} → Facts c → (ps : List Span) → Inside 16 216 ps → Inside 0 (8 * B c) ps
 in-first o [] h = tt
 in-first o (p ∷ ps) h = ((omega arith, omega (arith, h .0, o .size-least)), in-first o ps (h .1))
 
@@ -92,6 +93,21 @@ module _ (c : List ℕ) (b : Bytes c) (s : Step) (t : Taken c s) (ps : List Span
       go : (ss : List ℕ) → (rest : List ℕ) × (ss ≡ owner s ∷ rest) → Distinct ss → ((x : ℕ) → In x ss → Sector (S c) x)
           → joined (next c s) ss ≡ stores (joined c ss) ps vs
       go ss (rest, e) d m = rw e (joined-written rest (rw e at d) (rw e at m))
+
+  -- a write that leaves the product as it was leaves the image so
+  pub unwritten : product (next c s) (owner s) ≡ product c (owner s) → next c s ≡ c
+  unfolding sector
+  unwritten e =
+      let a = sectorAt c (owner s) in
+      let h : stores (sector c (owner s)) ps vs ≡ sector c (owner s) =
+      sym sector-written
+      ∙ sym (first-sector (next c s) (stays c b s t) (product-kept-there c b s t (t .present)))
+      ∙ ap₂ (λ (n : ℕ) (l : List ℕ). take n l) (kept-same c b s t .B-same) e
+      ∙ first-sector c (t .obeyed) (t .present) in
+      is
+      ∙ sym (stores-part c a (B c) ps vs b sector-in (in-first (t .obeyed) ps fits))
+      ∙ ap (λ (z : List ℕ). around c a (B c) z) h
+      ∙ around-part c a (B c)
 
   -- the same store once more
   pub written-again : stores (stores (sector c (owner s)) ps vs) ps vs ≡ stores (sector c (owner s)) ps vs
@@ -160,7 +176,7 @@ mark-taken c j m b e t =
     rw (next-is c (setMark j m) t, ← e, ← x) (store-field c _ _ b)
 
 -- a mark already set is accepted
-pub mark-accepted : (c : List ℕ) (j m : ℕ) → Obeys c → IsProduct c j → (1 ≤ m) × (m ≤ 2) → mark c j ≡ m → answer c (setMark j m) .number ≡ 0
+pub mark-accepted : (c : List ℕ) (j m : ℕ) → Facts c → IsProduct c j → (1 ≤ m) × (m ≤ 2) → mark c j ≡ m → answer c (setMark j m) .number ≡ 0
 unfolding stepRules productAt
 mark-accepted c j m o v k e = kept-taken c (setMark j m) o v (k, (omega arith, tt)) .answered-zero
 
@@ -174,7 +190,7 @@ mark-again c j m b e = go (act c (setMark j m))
 
 -- a step that sees the same stores the same
 next-again : (c : List ℕ) (s : Step) → Taken c s → seen (next c s) (owner s) ≡ seen c (owner s)
-    → next (next c s) s ≡ stores (next c s) (target (productAt c (owner s)) s) (values (productAt c (owner s)) s)
+    → next (next c s) s ≡ stores (next c s) (target (productAt c (owner s)) s) (newValues (productAt c (owner s)) s)
 next-again c s t e =
     next-by (next c s) s
     ∙ ap₂ (λ (ps : List Span) (vs : List ℕ). stores (next c s) ps vs) (ap (λ (z : Seen). placesOf z s) e ∙ t .places) (ap (λ (z : Seen). valuesOf z s) e ∙ t .stored)
@@ -194,3 +210,14 @@ again c (writeAll j vs) b t =
     (stores-again 16 (listOf kind) 232 (lists-joined kind) (sector c j) vs (bytes-sector c b j)
     (omega (arith, length-sector c (t .obeyed) j (own-sector c b (writeAll j vs) t), t .obeyed .size-least)) (record-fits c j vs t))
 again c (setMark j m) b t = mark-again (next c (setMark j m)) j m (bytes-next c (setMark j m) b) (mark-own c b (setMark j m) t)
+
+-- and the second is taken too: it sees the same, but for its own mark
+pub again-taken : (c : List ℕ) (s : Step) → Bytes c → Taken c s → answer (next c s) s .number ≡ 0
+unfolding answer
+again-taken c (write j n v) b t =
+    ap (λ (z : Seen). answerOf z (write j n v) .number) (seen-write c b (write j n v) t refl j) ∙ t .answered-zero
+again-taken c (writeAll j vs) b t =
+    ap (λ (z : Seen). answerOf z (writeAll j vs) .number) (seen-write c b (writeAll j vs) t refl j) ∙ t .answered-zero
+again-taken c (setMark j m) b t =
+    let s : Step = setMark j m in
+    mark-accepted (next c s) j m (stays c b s t) (product-kept-there c b s t (t .present)) (kept-mark c j m t) (mark-own c b s t)

@@ -1,5 +1,4 @@
-pub mod Answers
-pub mod Refuses
 pub mod Step
 pub mod Steps
 pub mod Touched
+pub mod Flags

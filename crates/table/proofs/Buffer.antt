@@ -5,17 +5,16 @@ use Prim.Native.Nat.{ℕ, zero, suc, _-_}
 use lib.ListN.{length, drop, replicate}
 use Rattle.chains.specs.Psi.{Ψ}
 use Rattle.fields.specs.Fields.{fields, stores}
-use Rattle.rules.specs.declared.Written.{Written}
-use Rattle.rules.specs.declared.Written.the-variants.{Done}
-use Rattle.rules.specs.Written.{writtenOf, ifDone}
+use Rattle.rules.specs.Answer.{says, ifDone}
 use Rattle.table.specs.declared.Elements.{Elements}
-use Rattle.table.specs.Table.{places, encodeNumber, encodeIn, packedTable, decodeNumber, decodeOf, elementsOf}
+use Rattle.table.specs.Table.{places}
+use Rattle.table.specs.Coded.{encodeNumber, encodeIn, packedTable, decodeNumber, decodeOf, elementsOf}
 use Rattle.table.proofs.Places.{drop-zeros}
 use Rattle.table.proofs.Rules.{encode-taken-gives}
 
 pub done : (s : ℕ) (es l : List ℕ) {p : ℕ} {z : List ℕ} → encodeNumber s es (length l) ≡ 0 → p ≡ Ψ s
     → z ≡ stores (replicate (length l) 0) (places p 0 (length es)) es
-    → (Done ≡ writtenOf (encodeNumber s es (length l))) × (z ≡ encodeIn s es l)
+    → (says 0 0 ≡ says (encodeNumber s es (length l)) 0) × (z ≡ encodeIn s es l)
 done s es l e p d =
     let t = encode-taken-gives s es (length l) e in
     rw (e, d, p) (refl, rw (t .count))
@@ -24,9 +23,9 @@ kept : (n : ℕ) (new old : List ℕ) → (n ≡ 0 → ⊥) → old ≡ ifDone n
 kept zero new old h = absurd (h refl)
 kept (suc n) new old h = refl
 
-pub refused : (s : ℕ) (es l : List ℕ) {n : ℕ} {r : Written} → n ≡ encodeNumber s es (length l) → (n ≡ 0 → ⊥) → r ≡ writtenOf n
-    → (r ≡ writtenOf (encodeNumber s es (length l))) × (l ≡ encodeIn s es l)
-refused s es l {n} e h a = rw (← e) (a, kept n (packedTable s es (length l)) l h)
+pub refused : (s : ℕ) (es l : List ℕ) {n : ℕ} → n ≡ encodeNumber s es (length l) → (n ≡ 0 → ⊥)
+    → (says n 0 ≡ says (encodeNumber s es (length l)) 0) × (l ≡ encodeIn s es l)
+refused s es l {n} e h = rw (← e) (refl, kept n (packedTable s es (length l)) l h)
 
 abbrev told : ℕ → ℕ → List ℕ → Elements
 told n count es = record { number = n; entry = 0; count = count; elements = es }

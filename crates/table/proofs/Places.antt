@@ -11,7 +11,8 @@ use lib.ListN.{length, getD, drop, replicate}
 use lib.Seq.{drop-cons}
 use Rattle.bits.specs.Bits.{field, store}
 use Rattle.fields.specs.declared.Span.{Span}
-use Rattle.fields.specs.Lists.{span, nth, joined}
+use Rattle.fields.specs.Lists.{span, nth}
+use Rattle.fields.specs.Ends.{endToEnd}
 use Rattle.fields.specs.Fields.{fields, stores}
 use Rattle.fields.proofs.Laws.{getD-fields}
 use Rattle.table.specs.Table.{places}
@@ -33,12 +34,12 @@ nth-places p a (suc n) (suc i) h =
     let e : a + p + p * i ≡ a + p * suc i = omega (arith, mul-suc p i) in
     nth-places p (a + p) n i (omega arith) ∙ ap (λ (x : ℕ). span x p) e
 
-pub places-joined : (p a n : ℕ) → T (joined a (places p a n) (a + p * n))
+pub places-joined : (p a n : ℕ) → T (endToEnd a (places p a n) (a + p * n))
 unfolding places
 places-joined p a zero = rw (mul-zero p, add-zero a) (eqb-refl a)
 places-joined p a (suc n) =
     let e : a + p * suc n ≡ a + p + p * n = omega (arith, mul-suc p n) in
-    rw e (both (eqb a a) (joined (a + p) (places p (a + p) n) (a + p + p * n)) (eqb-refl a) (places-joined p (a + p) n))
+    rw e (both (eqb a a) (endToEnd (a + p) (places p (a + p) n) (a + p + p * n)) (eqb-refl a) (places-joined p (a + p) n))
 
 pub room : (p i n : ℕ) → i < n → p * i + p ≤ p * n
 room p i n h = omega (arith, mul-le-mul-left {m = suc i} {n = n} p h, mul-suc p i)

@@ -1,8 +1,8 @@
 -- The chain table both ways: its elements are a list of fields that meet end to end, with zero bits after them. Assumes nothing.
-use mathlib.Core.Path.{_≡_, sym, ap, _∙_}
-use mathlib.Core.Logic.{_↔_, inr, ⊎-elim}
+use mathlib.Core.Path.{_≡_, refl, sym, ap, _∙_}
+use mathlib.Core.Logic.{_↔_, _≢_, inr, ⊎-elim}
 use mathlib.Core.List.{List, _++_}
-use Prim.Native.Nat.{ℕ, suc, _+_, _-_, _*_, _≤_}
+use Prim.Native.Nat.{ℕ, zero, suc, _+_, _-_, _*_, _≤_}
 use native.Mathlib.Omega.{arith}
 use lib.Dec.{T}
 use lib.ListN.{length, getD, replicate, length-replicate}
@@ -11,56 +11,66 @@ use Rattle.bits.proofs.Laws.{lt-or-le, bit-past, field-lt}
 use Rattle.bits.proofs.Zeros.{bytes-zeros, bit-zeros, field-of-zeros, zeros-of-field}
 use Rattle.chains.specs.Psi.{Ψ}
 use Rattle.chains.specs.Packed as chain
-use Rattle.fields.specs.Lists.{joined}
+use Rattle.fields.specs.Ends.{endToEnd}
 use Rattle.fields.specs.Together.{Fit}
 use Rattle.fields.proofs.Laws.{length-fields, length-stores, fields-stores, stores-onto, bit-stores-out}
-use Rattle.rules.specs.Claim.{Kept, Fails}
-use Rattle.rules.specs.declared.Written.{Written}
-use Rattle.rules.specs.Written.{writtenOf}
-use Rattle.rules.proofs.First.{kept-of-first, first-of-kept, taken-exactly, refused-exactly}
-use Rattle.table.specs.Table.{elementPlaces, encodeRules, encodeNumber, packedTable, encodeIn, decodeRules, decodeNumber, elementsIn, decodeOf}
+use Rattle.rules.specs.Claim.{Kept, Answers}
+use Rattle.rules.proofs.First.{kept-of-first, first-of-kept, taken-exactly, answers-exactly}
+use Rattle.table.specs.Table.{elementPlaces, encodeRules, decodeRules}
+use Rattle.table.specs.Coded.{encodeNumber, packedTable, encodeIn, decodeNumber, elementsIn, elementsOf, decodeOf}
 use Rattle.table.proofs.Places.{length-places, nth-places, places-joined, element-is}
 use Rattle.table.proofs.Rules.{encode-numbered, decode-numbered, table-room, encode-taken-gives, decode-taken-gives}
 
 -- ---- exactly, in order, and one answer
 
-pub table-encoded-exactly : (s : ℕ) (es : List ℕ) (room : ℕ) → (encodeNumber s es room ≡ 0) ↔ Kept (encodeRules s es room)
+pub encode-exactly : (s : ℕ) (es : List ℕ) (room n e : ℕ) → ((encodeNumber s es room ≡ n) × (0 ≡ e)) ↔ Answers (encodeRules s es room) n e
 unfolding encodeNumber
-table-encoded-exactly s es room = taken-exactly (encodeRules s es room) (encode-numbered s es room)
-
-pub table-refused-exactly : (s : ℕ) (es : List ℕ) (room n : ℕ) → 1 ≤ n → (encodeNumber s es room ≡ n) ↔ Fails (encodeRules s es room) n
-unfolding encodeNumber
-table-refused-exactly s es room n h = refused-exactly (encodeRules s es room) (encode-numbered s es room) n h
+encode-exactly s es room = answers-exactly (encodeRules s es room) (encode-numbered s es room)
 
 pub table-decoded-exactly : (s n : ℕ) → (decodeNumber s n ≡ 0) ↔ Kept (decodeRules s n)
 unfolding decodeNumber
 table-decoded-exactly s n = taken-exactly (decodeRules s n) (decode-numbered s n)
 
-pub table-undecoded-exactly : (s n k : ℕ) → 1 ≤ k → (decodeNumber s n ≡ k) ↔ Fails (decodeRules s n) k
-unfolding decodeNumber
-table-undecoded-exactly s n k h = refused-exactly (decodeRules s n) (decode-numbered s n) k h
+module _ (s : ℕ) (b : List ℕ) where
+  pub decode-exactly : (n e : ℕ) → ((decodeOf s b .number ≡ n) × (decodeOf s b .entry ≡ e)) ↔ Answers (decodeRules s (length b)) n e
+  unfolding decodeNumber
+  decode-exactly n e =
+      let q = is (decodeNumber s (length b)) in
+      rw (q .0, q .1) (answers-exactly (decodeRules s (length b)) (decode-numbered s (length b)) n e)
+    where
+      is : (k : ℕ) → (elementsOf k s b .number ≡ k) × (elementsOf k s b .entry ≡ 0)
+      is zero = (refl, refl)
+      is (suc k) = (refl, refl)
 
-pub table-unique : (s : ℕ) (es l : List ℕ) {r r′ : Written} {m m′ : List ℕ}
-    → (r ≡ writtenOf (encodeNumber s es (length l))) × (m ≡ encodeIn s es l)
-    → (r′ ≡ writtenOf (encodeNumber s es (length l))) × (m′ ≡ encodeIn s es l)
-    → (r ≡ r′) × (m ≡ m′)
-table-unique s es l p q = (p .0 ∙ sym (q .0), p .1 ∙ sym (q .1))
-
-pub refused-stays : (s : ℕ) (es l : List ℕ) (n : ℕ) → encodeNumber s es (length l) ≡ suc n → encodeIn s es l ≡ l
-refused-stays s es l n e = rw e
+  -- refused, the decoder gives zeros
+  pub undecoded-zeros : decodeOf s b .number ≢ 0 → (decodeOf s b .count ≡ 0) × (decodeOf s b .elements ≡ replicate 252 0)
+  undecoded-zeros h = go (decodeNumber s (length b)) h
+    where
+      go : (k : ℕ) → elementsOf k s b .number ≢ 0 → (elementsOf k s b .count ≡ 0) × (elementsOf k s b .elements ≡ replicate 252 0)
+      go zero h = absurd (h refl)
+      go (suc k) h = (refl, refl)
 
 -- ---- the list of the elements
 
-from-zero : (s : ℕ) → T (joined 0 (elementPlaces s) (Ψ s * (s - 3)))
+from-zero : (s : ℕ) → T (endToEnd 0 (elementPlaces s) (Ψ s * (s - 3)))
 from-zero s =
     let e : 0 + Ψ s * (s - 3) ≡ Ψ s * (s - 3) = omega arith in
     rw e at (places-joined (Ψ s) 0 (s - 3))
 
 -- element i of the decoder, from 1 on, is SCT(i) of the chains
-pub decoded-element : (s i : ℕ) (b : List ℕ) → 1 ≤ i → i ≤ s - 3 → getD (elementsIn s b) (i - 1) 0 ≡ chain.packed b 0 (Ψ s) i
+pub decoded-element : (s i : ℕ) (b : List ℕ) → 1 ≤ i → i ≤ s - 3 → getD (elementsIn s b) (i - 1) 0 ≡ chain.elementIn b 0 (Ψ s) i
 decoded-element s i b h k =
     let e : 0 + Ψ s * (i - 1) ≡ Ψ s * (i - 1) = omega arith in
     element-is (Ψ s) (s - 3) (i - 1) b (omega arith) ∙ ap (λ (x : ℕ). field b x (Ψ s)) (sym e)
+
+-- what a decoding that is taken gives
+pub decoded : (s : ℕ) (b : List ℕ) → decodeOf s b .number ≡ 0
+    → (decodeOf s b .count ≡ s - 3) × (decodeOf s b .elements ≡ elementsIn s b ++ replicate (252 - (s - 3)) 0)
+decoded s b z = go (decodeNumber s (length b)) z
+  where
+    go : (n : ℕ) → elementsOf n s b .number ≡ 0 → (elementsOf n s b .count ≡ s - 3) × (elementsOf n s b .elements ≡ elementsIn s b ++ replicate (252 - (s - 3)) 0)
+    go zero z = (refl, refl)
+    go (suc n) z = absurd (omega arith)
 
 -- ---- decoding what was encoded
 

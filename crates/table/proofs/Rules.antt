@@ -10,10 +10,12 @@ use lib.ListN.{length, getD}
 use lib.Dec.{eqb}
 use borrow.Author.Tests.{le-leb, lt-leb}
 use Rattle.chains.specs.Psi.{Ψ, tableBytes}
-use Rattle.rules.specs.Claim.{holds, every, _≤?_, unless, first}
+use Rattle.rules.specs.First.{holds, ifKept, first}
+use Rattle.rules.specs.Claim.{every, _≤?_}
 use Rattle.rules.proofs.ClaimLaws.{Numbered}
 use Rattle.rules.proofs.First.{kept-of-first}
-use Rattle.table.specs.Table.{encodeRules, encodeNumber, decodeRules, decodeNumber}
+use Rattle.table.specs.Table.{encodeRules, decodeRules}
+use Rattle.table.specs.Coded.{encodeNumber, decodeNumber}
 
 pub encode-numbered : (s : ℕ) (es : List ℕ) (room : ℕ) → Numbered (encodeRules s es room)
 encode-numbered s es room = (omega arith, (omega arith, (omega arith, (omega arith, (omega arith, tt)))))
@@ -31,9 +33,9 @@ encode-many s es room h k = rw (le-leb 4 s h, lt-leb s 255 k)
 
 pub encode-judged : (s : ℕ) (es : List ℕ) (room : ℕ) {p t m a b n : ℕ} {w : Bool} → 4 ≤ s → s ≤ 255 → p ≡ Ψ s → t ≡ tableBytes s → m ≡ 2 ^ p - 1
     → w ≡ holds (every (length es) λ i. getD es i 0 ≤? m)
-    → a ≡ unless w 0 26
-    → b ≡ unless (eqb room t) a 21
-    → n ≡ unless (eqb (length es) (s - 3)) b 21
+    → a ≡ ifKept w 0 26
+    → b ≡ ifKept (eqb room t) a 21
+    → n ≡ ifKept (eqb (length es) (s - 3)) b 21
     → n ≡ encodeNumber s es room
 unfolding encodeNumber first
 encode-judged s es room h k ep et em ew ea eb en = rw (le-leb 4 s h, le-leb s 255 k, en, eb, ea, ew, em, et, ep)
@@ -46,7 +48,7 @@ pub decode-many : (s n : ℕ) → 4 ≤ s → 255 < s → 6 ≡ decodeNumber s n
 unfolding decodeNumber first
 decode-many s n h k = rw (le-leb 4 s h, lt-leb s 255 k)
 
-pub decode-judged : (s n : ℕ) {t r : ℕ} → 4 ≤ s → s ≤ 255 → t ≡ tableBytes s → r ≡ unless (eqb n t) 0 21 → r ≡ decodeNumber s n
+pub decode-judged : (s n : ℕ) {t r : ℕ} → 4 ≤ s → s ≤ 255 → t ≡ tableBytes s → r ≡ ifKept (eqb n t) 0 21 → r ≡ decodeNumber s n
 unfolding decodeNumber first
 decode-judged s n h k et er = rw (le-leb 4 s h, le-leb s 255 k, er, et)
 

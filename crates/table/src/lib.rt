@@ -1,12 +1,14 @@
 // The sector chain table between its elements and its bytes.
-use rules::Written;
+use rules::Answer;
 ghost use mathlib.Core.Path.{_≡_};
 ghost use Prim.Native.Nat.{_*_, _≤_};
 ghost use lib.ListN.{length, getD, replicate};
-ghost use Rattle.rules.specs.Claim.{holds, every, _≤?_};
-ghost use Rattle.rules.specs.Written.{writtenOf};
+ghost use Rattle.rules.specs.First.{holds};
+ghost use Rattle.rules.specs.Claim.{every, _≤?_};
+ghost use Rattle.rules.specs.Answer.{says};
 ghost use Rattle.fields.specs.Fields.{fields, stores};
-ghost use Rattle.table.specs.Table.{places, encodeNumber, encodeIn, decodeNumber, decodeOf};
+ghost use Rattle.table.specs.Table.{places};
+ghost use Rattle.table.specs.Coded.{encodeNumber, encodeIn, decodeNumber, decodeOf};
 
 // What decoding a table answers: how many elements, and zeros after them.
 #[repr(C)]
@@ -65,15 +67,21 @@ fn pack_all(psi: usize, elements: &[u64], out: &mut [u8])
 }
 
 // Packs the elements of a table of s sectors into the buffer. Refused by 6, 21 or 26, nothing is altered.
-pub fn encode_table(s: u64, elements: &[u64], out: &mut [u8]) -> Written
-    ensures { λ r. ⌜ (r ≡ writtenOf (encodeNumber s (now (elements .entry)) (length (now (out .entry))))) × (now (out .exit) ≡ encodeIn s (now (elements .entry)) (now (out .entry))) ⌝ }
+pub fn encode_table(s: u64, elements: &[u64], out: &mut [u8]) -> Answer
+    ensures { λ r. ⌜ (r ≡ says (encodeNumber s (now (elements .entry)) (length (now (out .entry)))) 0) × (now (out .exit) ≡ encodeIn s (now (elements .entry)) (now (out .entry))) ⌝ }
 {
     let number = judge(s, elements, out.len());
     if number == 0 {
         pack_all(chains::psi(s as usize), elements, out);
-        return Written::Done;
+        return Answer {
+            number: 0,
+            entry: 0,
+        };
     }
-    rules::answered(number)
+    Answer {
+        number: number,
+        entry: 0,
+    }
 }
 
 // The first of 6 and 21 that the bytes do not keep; 0 where they keep both.

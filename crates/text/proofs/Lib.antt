@@ -3,3 +3,8 @@ pub mod Digits
 pub mod Spelled
 pub mod Room
 pub mod Back
+pub mod Split
+pub mod Listed
+pub mod Numbered
+pub mod Pairs
+pub mod Turns

@@ -1,4 +1,5 @@
-pub mod Words
 pub mod Numbers
+pub mod Words
 pub mod Hex
 pub mod Written
+pub mod Lines

@@ -3,7 +3,8 @@ use crate::words::least;
 use libc::STDIN_FILENO;
 ghost use mathlib.Core.Path.{_≡_};
 ghost use Prim.Native.Nat.{_-_, _≤_};
-ghost use lib.ListN.{length, take, drop};
+ghost use lib.ListN.{length, take, drop, replicate};
+ghost use Rattle.text.specs.Lines.{atFirst, moved, Reading, Turn};
 
 const LINE_END: u8 = 10;
 
@@ -23,7 +24,9 @@ pub struct Feed {
 }
 
 // A buffer to lend.
-pub fn room() -> [u8; ROOM] {
+pub fn room() -> [u8; ROOM]
+    ensures { λ r. ⌜ r ≡ replicate 262144 0 ⌝ }
+{
     [0; ROOM]
 }
 
@@ -38,7 +41,9 @@ pub fn line(input: &[u8], f: Feed) -> &[u8]
 }
 
 // Before the first turn.
-pub fn none() -> Feed {
+pub fn none() -> Feed
+    ensures { λ r. ⌜ r ≡ atFirst ⌝ }
+{
     Feed {
         given: false,
         start: 0,
@@ -52,7 +57,7 @@ pub fn none() -> Feed {
 
 // Gives the next line if a whole one was read, else reads once. A line that fills the buffer is given as an empty one, and its rest is passed over.
 pub fn next(input: &mut [u8], f: Feed) -> Feed
-    ensures { λ r. ⌜ (r .start ≤ r .end) × (r .end ≤ length (now (input .entry))) ⌝ }
+    ensures { λ r. ⌜ Turn (now (input .entry)) f (now (input .exit)) r ⌝ }
 {
     let filled = least(f.filled, input.len());
     let at = least(f.at, filled);
@@ -89,7 +94,7 @@ pub fn next(input: &mut [u8], f: Feed) -> Feed
 // Reads once, after the bytes held; at the end of the input these are the last line.
 fn more(input: &mut [u8], held: usize, passing: bool) -> Feed
     requires { ⌜ held ≤ length (now input) ⌝ }
-    ensures { λ r. ⌜ (r .start ≤ r .end) × (r .end ≤ length (now (input .entry))) ⌝ }
+    ensures { λ r. ⌜ Reading (now (input .entry)) held passing (now (input .exit)) r ⌝ }
 {
     let got = libc::read(STDIN_FILENO, &mut input[held..]);
     if got <= 0 {
@@ -118,7 +123,7 @@ fn more(input: &mut [u8], held: usize, passing: bool) -> Feed
 // Moves the bytes between two places to the front, and counts them.
 fn shift(input: &mut [u8], from: usize, to: usize) -> usize
     requires { ⌜ (from ≤ to) × (to ≤ length (now input)) ⌝ }
-    ensures { λ r. ⌜ r ≤ length (now (input .entry)) ⌝ }
+    ensures { λ r. ⌜ (r ≡ to - from) × (now (input .exit) ≡ moved from (to - from) (now (input .entry))) ⌝ }
 {
     let n = to - from;
     let mut i = 0;

@@ -2,9 +2,15 @@
 use crate::Byte;
 use crate::words::NONE;
 use crate::words::least;
+ghost use mathlib.Core.Path.{_≡_};
+ghost use lib.ListN.{length, take};
+ghost use Rattle.text.specs.Words.{fronted};
+ghost use Rattle.text.specs.Hex.{pairOf, byteOr0, bytesIn, hexCount};
 
 // How many bytes a word means; NONE where it is not hexadecimal.
-pub fn count(word: &[u8]) -> usize {
+pub fn count(word: &[u8]) -> usize
+    ensures { λ r. ⌜ r ≡ hexCount (now (word .entry)) ⌝ }
+{
     if crate::is(word, b"-") {
         return 0;
     }
@@ -28,7 +34,9 @@ pub fn count(word: &[u8]) -> usize {
 }
 
 // The byte that two digits mean, and 0 where they mean none.
-fn byte(a: u8, b: u8) -> u8 {
+fn byte(a: u8, b: u8) -> u8
+    ensures { λ r. ⌜ r ≡ byteOr0 (pairOf a b) ⌝ }
+{
     let Byte::Is(x) = crate::pair(a, b) else {
         return 0;
     };
@@ -36,7 +44,9 @@ fn byte(a: u8, b: u8) -> u8 {
 }
 
 // Puts the bytes that a word means into the buffer, as far as both go.
-pub fn read(word: &[u8], into: &mut [u8]) {
+pub fn read(word: &[u8], into: &mut [u8])
+    ensures { λ _. ⌜ now (into .exit) ≡ fronted (take (length (now (into .entry))) (bytesIn (now (word .entry)))) (now (into .entry)) ⌝ }
+{
     let n = least(word.len() / 2, into.len());
     let mut i = 0;
     while i < n {

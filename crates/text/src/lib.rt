@@ -5,11 +5,10 @@ pub mod prints;
 pub mod words;
 
 ghost use mathlib.Core.Path.{_≡_};
-ghost use mathlib.Core.Bool.{true};
 ghost use Prim.Native.Nat.{_≤_, _<_};
 ghost use lib.ListN.{length};
 ghost use Rattle.io.specs.Digits.{glyph as Digits·glyph};
-ghost use Rattle.text.specs.Words.{wordEnd};
+ghost use Rattle.text.specs.Words.{wordEnd, same};
 ghost use Rattle.text.specs.Numbers.{numberOf, spelled};
 ghost use Rattle.text.specs.Hex.{meant, pairOf, spelledByte};
 ghost use Rattle.text.specs.Written.{written, next};
@@ -41,7 +40,7 @@ pub fn end(line: &[u8], at: usize) -> usize
 
 // Whether a word is the given one.
 pub fn is(word: &[u8], given: &[u8]) -> bool
-    ensures { λ r. ⌜ (r ≡ true → now (word .entry) ≡ now (given .entry)) × (now (word .entry) ≡ now (given .entry) → r ≡ true) ⌝ }
+    ensures { λ r. ⌜ r ≡ same (now (word .entry)) (now (given .entry)) ⌝ }
 {
     check::same(word, given)
 }

@@ -12,16 +12,13 @@ use Rattle.fields.specs.Lists as lists
 use Rattle.fields.proofs.Joined.{lists-joined}
 use Rattle.fields.proofs.Whole.{decode-encode, encode-decode, packed-exactly}
 use Rattle.ticket.specs.declared.HeaderBytes.{HeaderBytes}
-use Rattle.ticket.specs.Header.{headerOf, headerBytes}
+use Rattle.ticket.specs.Ticket.{headerIn, headerBytes}
 
-pub header-back : (vs : List ℕ) → length vs ≡ 3 → Means (fit lists.head vs) → headerOf (headerBytes vs .bytes) .values ≡ vs
+pub header-back : (vs : List ℕ) → length vs ≡ 3 → Means (fit lists.head vs) → headerIn (headerBytes vs .bytes) .values ≡ vs
 header-back vs n m = decode-encode layout.Header 2 (lists-joined layout.Header) vs n m
 
-pub header-again : (b : List ℕ) → Bytes b → length b ≡ 2 → headerBytes (headerOf b .values) ≡ record { number = 0; entry = 0; bytes = b }
+pub header-again : (b : List ℕ) → Bytes b → length b ≡ 2 → headerBytes (headerIn b .values) ≡ record { number = 0; entry = 0; bytes = b }
 header-again b h n = let e = encode-decode layout.Header 2 (lists-joined layout.Header) b h n in rw (e .1, e .0)
 
 pub header-exactly : (vs : List ℕ) → ((headerBytes vs .number ≡ 0) ↔ Means (fit lists.head vs)) × ((headerBytes vs .number ≡ 26) ↔ (Means (fit lists.head vs) → ⊥))
 header-exactly vs = packed-exactly layout.Header vs
-
-pub header-unique : (vs : List ℕ) {r r′ : HeaderBytes} → r ≡ headerBytes vs → r′ ≡ headerBytes vs → r ≡ r′
-header-unique vs p q = p ∙ sym q

@@ -7,13 +7,16 @@ use native.Mathlib.Omega.{arith}
 use lib.ListN.{length, getD, length-set}
 use lib.Seq.{getD-set-same, getD-set-other}
 use Rattle.fields.specs.Lists.{typ23, nth}
-use Rattle.rules.specs.Claim.{Means, first}
+use Rattle.rules.specs.Claim.{Means}
+use Rattle.rules.specs.First.{first}
 use Rattle.rules.proofs.First.{kept-of-first}
 use Rattle.bits.proofs.Laws.{lt-or-le}
-use Rattle.fields.specs.Fields.{limitOf, limits, lowest}
+use Rattle.fields.specs.Fields.{limitOf, limits}
+use Rattle.fields.specs.Packed.{firstAbove}
 use Rattle.fields.specs.Together.{Fit}
 use Rattle.fields.proofs.Laws.{length-limits, getD-limits, lowest-none, none-lowest}
-use Rattle.ticket.specs.Kind.{kind, mostOf, limit, fitting, recordRule}
+use Rattle.dates.proofs.Stamps.{day-to}
+use Rattle.ticket.specs.Kind.{kind, mostOf, limit, fitting, recordRule, endMinutes}
 
 pub length-most : length (mostOf kind) ≡ 22
 unfolding mostOf
@@ -26,6 +29,10 @@ limit-time n e = rw e (getD-set-same (limits typ23) 8 1439 0 (omega (arith, leng
 pub limit-other : (n : ℕ) → (n ≡ 9 → ⊥) → 1 ≤ n → n ≤ 22 → limit kind n ≡ limitOf (nth typ23 (n - 1))
 unfolding mostOf
 limit-other n ne h k = getD-set-other (limits typ23) 8 (n - 1) _ 0 (λ q. ne (omega arith)) ∙ getD-limits typ23 (n - 1) (omega arith)
+
+-- the latest end: day 16,384, minute 1,439
+pub end-most : (exp time : ℕ) → exp < 16384 → time ≤ 1439 → endMinutes exp time ≤ 23594399
+end-most exp time h k = omega (arith, day-to exp h)
 
 -- equal or not
 pub same-or-not : {G : Type 0} (a b : ℕ) → (a ≡ b → G) → ((a ≡ b → ⊥) → G) → G
@@ -46,17 +53,17 @@ most-low j h = same-or-not j 8 time other
         omega arith
 
 -- where the lowest bad value is none, all values fit their places
-pub fit-lowest : (vs : List ℕ) → length vs ≡ 22 → lowest (mostOf kind) vs ≡ 0 → Fit typ23 vs
+pub fit-lowest : (vs : List ℕ) → length vs ≡ 22 → firstAbove (mostOf kind) vs ≡ 0 → Fit typ23 vs
 fit-lowest vs e z = record {
   many = e;
   low = λ i h. omega (arith, lowest-none (mostOf kind) vs (length-most ∙ sym e) z i (omega arith), most-low i h);
 }
 
 -- and there is none where 26 is not given
-pub lowest-fitting : (vs : List ℕ) → Means (fitting vs) → lowest (mostOf kind) vs ≡ 0
+pub lowest-fitting : (vs : List ℕ) → Means (fitting vs) → firstAbove (mostOf kind) vs ≡ 0
 lowest-fitting vs m =
     none-lowest (mostOf kind) vs (length-most ∙ sym (m .0))
     (λ j h. subst (λ (i : ℕ). getD vs j 0 ≤ getD (mostOf kind) i 0) (omega arith) (m .1 j (omega (arith, m .0))))
 
-pub lowest-kept : (vs : List ℕ) → first (recordRule vs ∷ []) ≡ 0 → lowest (mostOf kind) vs ≡ 0
+pub lowest-kept : (vs : List ℕ) → first (recordRule vs ∷ []) ≡ 0 → firstAbove (mostOf kind) vs ≡ 0
 lowest-kept vs z = lowest-fitting vs (kept-of-first (recordRule vs ∷ []) (omega arith, tt) z .0)

@@ -1,30 +1,28 @@
 -- A record that is taken is decoded as it was, and bytes are encoded as they were exactly where ExpiryTime is below 1,440.
 -- Assumes nothing.
 use mathlib.Core.Path.{_≡_, refl, sym, ap, _∙_}
-use mathlib.Core.Logic.{_↔_, _⊎_, inl, inr, ⊎-elim}
-use mathlib.Core.Bool.{Bool, true, false, cond}
+use mathlib.Core.Logic.{_↔_, _≢_, _⊎_, inl, inr, ⊎-elim}
 use mathlib.Core.List.{List, [], _∷_}
 use Prim.Native.Nat.{ℕ, zero, suc, _+_, _-_, _*_, _/_, _%_, _≤_, _<_}
 use native.Mathlib.Nat.{not-suc-le-zero}
 use native.Mathlib.Omega.{arith}
-use lib.ListN.{length, getD, drop}
-use lib.Dec.{ltb}
+use lib.ListN.{length, getD, drop, replicate}
 use Rattle.bits.specs.Bits.{Bytes, digit, bit, number, field}
 use Rattle.bits.proofs.Laws.{lt-or-le, bit-past, field-byte}
-use Rattle.rules.specs.Claim.{Means, first}
-use Rattle.rules.proofs.First.{kept-of-first}
+use Rattle.rules.specs.Claim.{Means, here, Answers}
+use Rattle.rules.specs.First.{first}
+use Rattle.rules.proofs.First.{kept-of-first, first-of-kept, first-of-fails, answers-exactly}
 use Rattle.fields.specs.declared.Layout.the-variants.{Typ23}
 use Rattle.fields.specs.Lists.{typ23}
-use Rattle.fields.specs.Fields.{fields, stores, lowest}
+use Rattle.fields.specs.Fields.{fields, stores}
 use Rattle.fields.specs.Together.{Fit}
 use Rattle.fields.proofs.Joined.{lists-joined}
 use Rattle.fields.proofs.Laws.{fields-stores, stores-onto, field-before, fit-fields, getD-fields, length-fields, length-stores, bytes-stores}
 use Rattle.ticket.specs.declared.Record.{Record}
 use Rattle.ticket.specs.declared.Encoded.{Encoded}
-use Rattle.ticket.specs.Kind.{kind, mostOf, limit, fitting, recordRule}
-use Rattle.ticket.specs.Ticket.{zeros, bytesOf, encoded, encodeOf, decodeOf}
+use Rattle.ticket.specs.Kind.{kind, limit, fitting, recordRule}
+use Rattle.ticket.specs.Ticket.{zeros, bytesOf, encoded, encodeBy, encodeOf, decodeOf}
 use Rattle.ticket.proofs.Limits.{same-or-not, limit-time, limit-other, fit-lowest, lowest-fitting}
-use Rattle.ticket.proofs.Rules.{record-number}
 
 -- a value for each field, none above its limit
 abbrev pub Fits : Record → Type 0
@@ -35,47 +33,47 @@ fit t f = fit-lowest (t .values) (f .0) (lowest-fitting (t .values) f)
 
 -- encoded exactly where it fits, else 26 and zeros
 pub taken : (t : Record) → Fits t → encodeOf t ≡ encoded 0 (bytesOf (t .values))
-taken t f = rw (lowest-fitting (t .values) f)
+taken t f = rw (first-of-kept (recordRule (t .values) ∷ []) (omega arith, tt) (f, tt))
 
-abbrev encodedBy : Bool → List ℕ → Encoded
-encodedBy b vs = cond b (encoded 26 (zeros 27)) (encoded 0 (bytesOf vs))
+encoded-by : (n : ℕ) (vs : List ℕ) → (encodeBy n vs .number ≡ n) × (encodeBy n vs .entry ≡ 0)
+encoded-by zero vs = (refl, refl)
+encoded-by (suc n) vs = (refl, refl)
 
-module _ (t : Record) (many : length (t .values) ≡ 22) where
+module _ (t : Record) where
   number-zero : first (recordRule (t .values) ∷ []) ≡ 0 → Fits t
   number-zero z = kept-of-first (recordRule (t .values) ∷ []) (omega arith, tt) z .0
 
   pub refused : (Fits t → ⊥) → encodeOf t ≡ encoded 26 (zeros 27)
-  refused bad = go (ltb 0 (lowest (mostOf kind) (t .values))) (record-number (t .values) many)
-    where
-      go : (b : Bool) → first (recordRule (t .values) ∷ []) ≡ cond b 26 0 → encodedBy b (t .values) ≡ encoded 26 (zeros 27)
-      go true e = refl
-      go false e = absurd (bad (number-zero e))
+  refused bad = rw (first-of-fails (recordRule (t .values) ∷ []) (omega arith, tt) 26 (here bad))
 
   pub taken-fits : encodeOf t .number ≡ 0 → Fits t
-  taken-fits = go (ltb 0 (lowest (mostOf kind) (t .values))) (record-number (t .values) many)
-    where
-      go : (b : Bool) → first (recordRule (t .values) ∷ []) ≡ cond b 26 0 → encodedBy b (t .values) .number ≡ 0 → Fits t
-      go true e z = absurd (omega arith)
-      go false e z = number-zero e
+  taken-fits z = number-zero (sym (encoded-by (first (recordRule (t .values) ∷ [])) (t .values) .0) ∙ z)
 
-  -- 26 exactly where a value is above its limit
-  pub refused-exactly : (encodeOf t .number ≡ 26) ↔ (Fits t → ⊥)
-  refused-exactly = ((λ q f. let z = ap (λ x. x .number) (taken t f) in omega arith), λ bad. ap (λ x. x .number) (refused bad))
+  -- 26 exactly where a value is above its limit, with entry 0
+  pub encode-exactly : (n e : ℕ) → ((encodeOf t .number ≡ n) × (encodeOf t .entry ≡ e)) ↔ Answers (recordRule (t .values) ∷ []) n e
+  encode-exactly n e =
+      let q = encoded-by (first (recordRule (t .values) ∷ [])) (t .values) in
+      rw (q .0, q .1) (answers-exactly (recordRule (t .values) ∷ []) (omega arith, tt) n e)
+
+  -- and then zeros
+  pub refused-zeros : encodeOf t .number ≢ 0 → encodeOf t .bytes ≡ replicate 27 0
+  refused-zeros h = go (first (recordRule (t .values) ∷ [])) h
+    where
+      go : (k : ℕ) → encodeBy k (t .values) .number ≢ 0 → encodeBy k (t .values) .bytes ≡ replicate 27 0
+      go zero h = absurd (h refl)
+      go (suc k) h = refl
 
   -- the record's own number decides
   module _ (k : ℕ) (is : k ≡ first (recordRule (t .values) ∷ [])) where
     pub encode-refused : (k ≡ 0 → ⊥) → encoded k (zeros 27) ≡ encodeOf t
-    encode-refused h = go (ltb 0 (lowest (mostOf kind) (t .values))) (is ∙ record-number (t .values) many)
+    encode-refused h = go k refl ∙ ap (λ (n : ℕ). encodeBy n (t .values)) is
       where
-        go : (b : Bool) → k ≡ cond b 26 0 → encoded k (zeros 27) ≡ encodedBy b (t .values)
-        go true e = rw e
-        go false e = absurd (h e)
+        go : (n : ℕ) → k ≡ n → encoded k (zeros 27) ≡ encodeBy k (t .values)
+        go zero e = absurd (h e)
+        go (suc n) e = rw e
 
     pub encode-taken : k ≡ 0 → encoded 0 (bytesOf (t .values)) ≡ encodeOf t
     encode-taken z = sym (taken t (number-zero (sym is ∙ z)))
-
-pub encode-unique : (t : Record) {r r′ : Encoded} → r ≡ encodeOf t → r′ ≡ encodeOf t → r ≡ r′
-encode-unique t p q = p ∙ sym q
 
 -- ---- the two bytes before the fields
 
@@ -157,7 +155,7 @@ module _ (b : List ℕ) (bytes : Bytes b) (e : length b ≡ 27) where
 
   pub late-refused : 1440 ≤ timeOf b → encodeOf (decodeOf b) ≡ encoded 26 (zeros 27)
   late-refused h =
-      refused (decodeOf b) (decoded-many b)
+      refused (decodeOf b)
       (λ f. omega (arith, f .1 8 (omega arith), limit-time 9 refl, getD-fields (0 ∷ 0 ∷ b) typ23 8 (omega arith)))
 
   -- the bytes come back only where ExpiryTime is below 1,440

@@ -1,21 +1,22 @@
 -- What a step on a record answers, case by case; and that a field set is read, the others stay, and a refused step keeps the record:
 -- the number is the first rule that fails. Assumes nothing.
 use mathlib.Core.Path.{_≡_, refl, sym, ap, _∙_}
-use mathlib.Core.Logic.{_↔_}
+use mathlib.Core.Logic.{_↔_, _≢_}
 use mathlib.Core.Bool.{true, false}
 use mathlib.Core.List.{[], _∷_}
 use Prim.Native.Nat.{ℕ, zero, suc, _-_, _≤_}
 use native.Mathlib.Omega.{arith}
 use lib.ListN.{length, getD}
 use lib.Seq.{getD-set-same, getD-set-other}
-use Rattle.rules.specs.Claim.{holds, Kept, Fails, first}
+use Rattle.rules.specs.First.{holds, first}
+use Rattle.rules.specs.Claim.{Kept, Answers}
 use Rattle.rules.proofs.ClaimLaws.{Numbered}
-use Rattle.rules.proofs.First.{kept-of-first, first-of-kept, taken-exactly, refused-exactly}
+use Rattle.rules.proofs.First.{kept-of-first, first-of-kept, taken-exactly, answers-exactly}
 use Rattle.ticket.specs.declared.Record.{Record}
 use Rattle.ticket.specs.declared.Changed.{Changed}
 use Rattle.ticket.specs.declared.Value.{Value}
 use Rattle.ticket.specs.Kind.{kind, countOf, fieldRule, setRules}
-use Rattle.ticket.specs.Ticket.{answer, with, setNumber, valueNumber, nextOf, setOf, valueIf, valueOf}
+use Rattle.ticket.specs.Ticket.{changed, with, setNumber, valueNumber, nextOf, setOf, valueIf, valueOf}
 
 set-numbered : (n v : ℕ) → Numbered (setRules n v)
 set-numbered n v = (omega arith, (omega arith, tt))
@@ -26,15 +27,15 @@ value-numbered n = (omega arith, tt)
 -- ---- what a step answers, by its number
 
 module _ (t : Record) (n v k : ℕ) (is : k ≡ first (setRules n v)) where
-  pub set-refused : (k ≡ 0 → ⊥) → answer k t ≡ setOf t n v
+  pub set-refused : (k ≡ 0 → ⊥) → changed k t ≡ setOf t n v
   unfolding setNumber
   set-refused h = rw (← is) (go k h)
     where
-      go : (k : ℕ) → (k ≡ 0 → ⊥) → answer k t ≡ answer k (nextOf k t n v)
+      go : (k : ℕ) → (k ≡ 0 → ⊥) → changed k t ≡ changed k (nextOf k t n v)
       go zero h = absurd (h refl)
       go (suc k) h = refl
 
-  pub set-done : k ≡ 0 → answer 0 (with t n v) ≡ setOf t n v
+  pub set-done : k ≡ 0 → changed 0 (with t n v) ≡ setOf t n v
   unfolding setNumber
   set-done e = rw (← is, e)
 
@@ -52,32 +53,49 @@ module _ (t : Record) (n : ℕ) where
 
 -- ---- exactly, in order, and one answer
 
-pub set-taken-exactly : (n v : ℕ) → (setNumber n v ≡ 0) ↔ Kept (setRules n v)
+pub set-exactly : (n v k e : ℕ) → ((setNumber n v ≡ k) × (0 ≡ e)) ↔ Answers (setRules n v) k e
 unfolding setNumber
-set-taken-exactly n v = taken-exactly (setRules n v) (set-numbered n v)
+set-exactly n v = answers-exactly (setRules n v) (set-numbered n v)
 
-pub set-refused-exactly : (n v k : ℕ) → 1 ≤ k → (setNumber n v ≡ k) ↔ Fails (setRules n v) k
-unfolding setNumber
-set-refused-exactly n v k h = refused-exactly (setRules n v) (set-numbered n v) k h
+module _ (t : Record) (n : ℕ) where
+  pub value-exactly : (k e : ℕ) → ((valueOf t n .number ≡ k) × (valueOf t n .entry ≡ e)) ↔ Answers (fieldRule n ∷ []) k e
+  unfolding valueNumber
+  value-exactly k e =
+      let q = is (valueNumber n) (getD (t .values) (n - 1) 0) in
+      rw (q .0, q .1) (answers-exactly (fieldRule n ∷ []) (value-numbered n) k e)
+    where
+      is : (k v : ℕ) → (valueIf k v .number ≡ k) × (valueIf k v .entry ≡ 0)
+      is zero v = (refl, refl)
+      is (suc k) v = (refl, refl)
 
-pub value-refused-exactly : (n k : ℕ) → 1 ≤ k → (valueNumber n ≡ k) ↔ Fails (fieldRule n ∷ []) k
-unfolding valueNumber
-value-refused-exactly n k h = refused-exactly (fieldRule n ∷ []) (value-numbered n) k h
-
-pub set-unique : (t : Record) (n v : ℕ) {r r′ : Changed} → r ≡ setOf t n v → r′ ≡ setOf t n v → r ≡ r′
-set-unique t n v p q = p ∙ sym q
-
-pub value-unique : (t : Record) (n : ℕ) {r r′ : Value} → r ≡ valueOf t n → r′ ≡ valueOf t n → r ≡ r′
-value-unique t n p q = p ∙ sym q
+  -- refused, the value is 0
+  pub value-zero : valueOf t n .number ≢ 0 → valueOf t n .value ≡ 0
+  value-zero h = go (valueNumber n) (getD (t .values) (n - 1) 0) h
+    where
+      go : (k v : ℕ) → valueIf k v .number ≢ 0 → valueIf k v .value ≡ 0
+      go zero v h = absurd (h refl)
+      go (suc k) v h = refl
 
 -- ---- what a step does
 
 -- a refused step gives back the record that it took
-pub refused-keeps : (t : Record) (n v k : ℕ) → setOf t n v .number ≡ suc k → setOf t n v .next ≡ t
-refused-keeps t n v k e = rw e
+pub refused-keeps : (t : Record) (n v : ℕ) → setOf t n v .number ≢ 0 → setOf t n v .next ≡ t
+refused-keeps t n v h = go (setNumber n v) h
+  where
+    go : (k : ℕ) → k ≢ 0 → nextOf k t n v ≡ t
+    go zero h = absurd (h refl)
+    go (suc k) h = refl
 
-taken-next : (t : Record) (n v : ℕ) → setOf t n v .number ≡ 0 → setOf t n v .next ≡ with t n v
+pub taken-next : (t : Record) (n v : ℕ) → setOf t n v .number ≡ 0 → setOf t n v .next ≡ with t n v
 taken-next t n v e = rw e
+
+-- a field that is there gives its value
+pub taken-value : (t : Record) (n : ℕ) → valueOf t n .number ≡ 0 → valueOf t n .value ≡ getD (t .values) (n - 1) 0
+taken-value t n z = go (valueNumber n) z
+  where
+    go : (k : ℕ) → valueIf k (getD (t .values) (n - 1) 0) .number ≡ 0 → valueIf k (getD (t .values) (n - 1) 0) .value ≡ getD (t .values) (n - 1) 0
+    go zero z = refl
+    go (suc k) z = absurd (omega arith)
 
 number-zero : {n : ℕ} → (1 ≤ n) × (n ≤ countOf kind) → valueNumber n ≡ 0
 unfolding valueNumber

@@ -1,4 +1,4 @@
--- The checks 22 and 23 of a product: what each answers, and document 01's number of each answer. Assumes nothing.
+-- An annex: the checks 22 and 23 of a product: what each answers, and document 01's number of each answer. Assumes nothing.
 use Prim.Native.Nat.{ℕ, _*_}
 use mathlib.Core.Bool.{cond, _&&_}
 use lib.Dec.{eqb, leb}

@@ -1,21 +1,24 @@
--- What a TYP 23 ticket is, and what the calls on its record answer. Assumes nothing.
-use Prim.Native.Nat.{ℕ, zero, suc, _+_, _-_, _*_}
-use mathlib.Core.Bool.{cond}
+-- An annex: what the calls on a ticket's record and header answer (document 01, "Steps on a product", "Encoding what was read"). Assumes nothing.
+use Prim.Native.Nat.{ℕ, zero, suc, _-_}
 use mathlib.Core.List.{List, [], _∷_}
 use lib.ListN.{getD, set, drop}
-use lib.Dec.{ltb}
+use Rattle.fields.specs.declared.Layout.the-variants as layout
+use Rattle.fields.specs.Lists as lists
 use Rattle.fields.specs.Lists.{typ23}
-use Rattle.fields.specs.Fields.{fields, stores, lowest}
-use Rattle.dates.specs.Stamps.{dayOf}
-use Rattle.rules.specs.Claim.{first}
-use Rattle.ticket.specs.Kind.{kind, mostOf, fieldRule, setRules}
+use Rattle.fields.specs.Fields.{fields, stores}
+use Rattle.fields.specs.Packed.{packNumber, packed}
+use Rattle.rules.specs.First.{first}
+use Rattle.ticket.specs.Kind.{fieldRule, setRules, recordRule}
 use Rattle.ticket.specs.declared.Record.{Record}
 use Rattle.ticket.specs.declared.Changed.{Changed}
 use Rattle.ticket.specs.declared.Value.{Value}
 use Rattle.ticket.specs.declared.Encoded.{Encoded}
+use Rattle.ticket.specs.declared.Header.{Header}
+use Rattle.ticket.specs.declared.HeaderBytes.{HeaderBytes}
 
-abbrev pub answer : ℕ → Record → Changed
-answer n t = record { number = n; entry = 0; next = t }
+-- a number, and the record then
+abbrev pub changed : ℕ → Record → Changed
+changed n t = record { number = n; entry = 0; next = t }
 
 abbrev pub with : Record → ℕ → ℕ → Record
 with t n v = record { values = set (t .values) (n - 1) v }
@@ -33,7 +36,7 @@ nextOf zero t n v = with t n v
 nextOf (suc k) t n v = t
 
 abbrev pub setOf : Record → ℕ → ℕ → Changed
-setOf t n v = answer (setNumber n v) (nextOf (setNumber n v) t n v)
+setOf t n v = changed (setNumber n v) (nextOf (setNumber n v) t n v)
 
 -- the value of a field; refused, 0
 abbrev pub valueIf : ℕ → ℕ → Value
@@ -54,9 +57,13 @@ bytesOf vs = drop 2 (stores (zeros 29) typ23 vs)
 abbrev pub encoded : ℕ → List ℕ → Encoded
 encoded n b = record { number = n; entry = 0; bytes = b }
 
--- 26 where a value is above its limit
+-- 26 where a value is above its limit: then zeros
+abbrev pub encodeBy : ℕ → List ℕ → Encoded
+encodeBy zero vs = encoded 0 (bytesOf vs)
+encodeBy (suc n) vs = encoded (suc n) (zeros 27)
+
 abbrev pub encodeOf : Record → Encoded
-encodeOf t = cond (ltb 0 (lowest (mostOf kind) (t .values))) (encoded 26 (zeros 27)) (encoded 0 (bytesOf (t .values)))
+encodeOf t = encodeBy (first (recordRule (t .values) ∷ [])) (t .values)
 
 -- the values of a ticket
 abbrev pub recordIn : List ℕ → Record
@@ -66,6 +73,9 @@ recordIn l = record { values = fields l typ23 }
 abbrev pub decodeOf : List ℕ → Record
 decodeOf b = recordIn (0 ∷ 0 ∷ b)
 
--- the end of a ticket in minutes (document 01, "Dates"): the entry's EXP as day, and ExpiryTime
-abbrev pub endOf : ℕ → ℕ → ℕ
-endOf exp time = dayOf exp * 1440 + time
+-- the header's three values in two bytes; 26 if one is too wide
+abbrev pub headerBytes : List ℕ → HeaderBytes
+headerBytes vs = record { number = packNumber layout.Header vs; entry = 0; bytes = packed layout.Header 2 vs }
+
+abbrev pub headerIn : List ℕ → Header
+headerIn b = record { values = fields b lists.head }

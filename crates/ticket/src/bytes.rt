@@ -11,11 +11,11 @@ ghost use Prim.Native.Nat.{_+_, _*_, _≤_};
 ghost use lib.ListN.{length, drop};
 ghost use Rattle.bits.specs.Bits.{store};
 ghost use Rattle.fields.specs.Lists.{listOf, typ23};
-ghost use Rattle.fields.specs.Fields.{fields, stores, lowest};
+ghost use Rattle.fields.specs.Fields.{fields, stores};
+ghost use Rattle.fields.specs.Packed.{firstAbove};
 ghost use Rattle.fields.specs.Together.{Fit, wide, together};
 ghost use Rattle.ticket.specs.Kind.{kind, mostOf};
-ghost use Rattle.ticket.specs.Header.{headerOf, headerBytes};
-ghost use Rattle.ticket.specs.Ticket.{recordIn, encodeOf, decodeOf};
+ghost use Rattle.ticket.specs.Ticket.{headerIn, headerBytes, recordIn, encodeOf, decodeOf};
 
 // The values of the ticket that starts with the slice, each at a place that is known here. It has one caller, so that nothing of the list is looked up.
 fn values_in(s: &[u8]) -> [u64; 22]
@@ -104,13 +104,12 @@ fn store_all(s: &mut [u8], values: &[u64])
     store_together(s, values, 20, 2, 26, 3)
 }
 
-// Stores a record whose values are at most their limits, in the ticket that starts with the slice.
-pub fn store_record(s: &mut [u8], t: Record)
-    requires { ⌜ (232 ≤ 8 * length (now s)) × (lowest (mostOf kind) (t .values) ≡ 0) ⌝ }
-    ensures { λ _. ⌜ now (s .exit) ≡ stores (now (s .entry)) (listOf kind) (t .values) ⌝ }
+// Stores values that are at most their limits, in the ticket that starts with the slice.
+pub fn store_record(s: &mut [u8], values: &[u64])
+    requires { ⌜ (232 ≤ 8 * length (now s)) × (length (now values) ≡ 22) × (firstAbove (mostOf kind) (now values) ≡ 0) ⌝ }
+    ensures { λ _. ⌜ now (s .exit) ≡ stores (now (s .entry)) (listOf kind) (now (values .entry)) ⌝ }
 {
-    let v = t.values;
-    store_all(s, &v)
+    store_all(s, values)
 }
 
 // The bytes after the ticket's header.
@@ -143,7 +142,8 @@ fn with_header(bytes: [u8; 27]) -> [u8; 29]
 pub fn encode(t: Record) -> Encoded
     ensures { λ r. ⌜ r ≡ encodeOf t ⌝ }
 {
-    let number = record_number(t);
+    let values = t.values;
+    let number = record_number(&values);
     if number != 0 {
         return Encoded {
             number: number,
@@ -152,7 +152,7 @@ pub fn encode(t: Record) -> Encoded
         };
     }
     let mut a = [0u8; 29];
-    store_record(&mut a, t);
+    store_record(&mut a, &values);
     let b = without_header(a);
     Encoded {
         number: 0,
@@ -171,7 +171,7 @@ pub fn decode(bytes: [u8; 27]) -> Record
 
 // The header that the two bytes hold.
 pub fn decode_header(bytes: [u8; 2]) -> Header
-    ensures { λ r. ⌜ r ≡ headerOf bytes ⌝ }
+    ensures { λ r. ⌜ r ≡ headerIn bytes ⌝ }
 {
     let mut values = [0u64; 3];
     fields::read(&bytes, Layout::Header, &mut values);

@@ -4,12 +4,13 @@ use fields::Span;
 ghost use mathlib.Core.Path.{_≡_};
 ghost use mathlib.Core.List.{[], _∷_};
 ghost use Prim.Native.Nat.{_-_, _*_, _^_, _≤_, _<_};
-ghost use Rattle.rules.specs.Claim.{holds, first};
+ghost use lib.ListN.{length};
+ghost use Rattle.rules.specs.First.{holds, first};
 ghost use Rattle.fields.specs.Lists.{listOf, nth};
-ghost use Rattle.fields.specs.Fields.{lowest};
-ghost use Rattle.ticket.specs.Kind.{kind, typ, revision, countOf, leastOf, restOf, mostOf, limit, fieldRule, setRules, recordRule};
+ghost use Rattle.fields.specs.Packed.{firstAbove};
+ghost use Rattle.ticket.specs.Kind.{kind, typ, revision, countOf, leastOf, restOf, mostOf, limit, fieldRule, setRules, recordRule, endMinutes};
 ghost use Rattle.ticket.specs.Checks.{formIn, extentIn};
-ghost use Rattle.ticket.specs.Ticket.{setOf, valueOf, endOf};
+ghost use Rattle.ticket.specs.Ticket.{setOf, valueOf};
 
 mod bytes;
 
@@ -173,11 +174,30 @@ pub fn field_number(field: usize, value: u64) -> usize
     0
 }
 
-// 26, of a record; 0 where it is not given.
-pub fn record_number(t: Record) -> usize
-    ensures { λ r. ⌜ r ≡ first (recordRule (t .values) ∷ []) ⌝ }
+// The lowest field whose value is above its limit, from 1; 0 where there is none.
+fn lowest_bad(values: &[u64]) -> usize
+    requires { ⌜ length (now values) ≡ 22 ⌝ }
+    ensures { λ r. ⌜ r ≡ firstAbove (mostOf kind) (now (values .entry)) ⌝ }
 {
-    if 0 < t.lowest_bad() {
+    let places = fields::typ23();
+    let n = count();
+    let mut i: usize = 0;
+    while i < n {
+        let p = places[i];
+        if largest(p, i + 1) < values[i] {
+            return i + 1;
+        }
+        i += 1;
+    }
+    0
+}
+
+// 26, of a record's values, lent so that they are not copied; 0 where it is not given.
+pub fn record_number(values: &[u64]) -> usize
+    requires { ⌜ length (now values) ≡ 22 ⌝ }
+    ensures { λ r. ⌜ r ≡ first (recordRule (now (values .entry)) ∷ []) ⌝ }
+{
+    if 0 < lowest_bad(values) {
         return rules::TOO_LARGE;
     }
     0
@@ -224,30 +244,12 @@ impl Record {
             value: self.values[at],
         }
     }
-
-    // The lowest field whose value is above its limit, from 1; 0 where there is none.
-    pub fn lowest_bad(self) -> usize
-        ensures { λ r. ⌜ r ≡ lowest (mostOf kind) (self .values) ⌝ }
-    {
-        let places = fields::typ23();
-        let values = self.values;
-        let n = count();
-        let mut i: usize = 0;
-        while i < n {
-            let p = places[i];
-            if largest(p, i + 1) < values[i] {
-                return i + 1;
-            }
-            i += 1;
-        }
-        0
-    }
 }
 
 // The end of a ticket in minutes: the day of its entry's EXP, and its ExpiryTime.
 pub fn end(exp: u64, time: u64) -> u64
     requires { ⌜ (exp < 2 ^ 32) × (time < 2 ^ 32) ⌝ }
-    ensures { λ r. ⌜ r ≡ endOf exp time ⌝ }
+    ensures { λ r. ⌜ r ≡ endMinutes exp time ⌝ }
 {
     dates::day(exp) * 1440 + time
 }

@@ -15,7 +15,7 @@ use Rattle.chains.specs.Chain as C
 use Rattle.chains.proofs.Laws.{one-mark, ends-or-names, view, view-end, view-to}
 use Rattle.rules.proofs.ClaimLaws.{and-true}
 use Rattle.image.specs.Image.{element, sector, joined}
-use Rattle.steps.specs.Touched.{alike}
+use Rattle.steps.specs.Flags.{alike}
 use Rattle.touched.specs.Together.{sameFrom}
 
 -- ---- lists
@@ -61,7 +61,7 @@ same-ends {s} {i} {x} {y} {m} {k} t a b = elim (ℕ-discrete x y) [
 
 starts : {f : ℕ → ℕ} {s i m : ℕ} {ss : List ℕ} → Leads f s i ss m → (r : List ℕ) × (ss ≡ i ∷ r)
 starts (last a) = ([], refl)
-starts (C.next {ss = ss} a p) = (ss, refl)
+starts (C.then {ss = ss} a p) = (ss, refl)
 
 -- chains that start at different sectors are not alike
 starts-apart : {f g : ℕ → ℕ} {s i j m k : ℕ} {ss ts : List ℕ} → Leads f s i ss m → Leads g s j ts k → i ≢ j → alike ss ts ≡ false
@@ -93,16 +93,16 @@ module _ (c d : List ℕ) (n₀ : ℕ) (long : (i : ℕ) → Sector n₀ i → l
       → sameFrom (element c) (element d) sameSector n₀ i n ≡ (alike ss ts && (eqb m k && alike (joined c ss) (joined d ts)))
   unfolding sameFrom alike joined
   together zero s (last a) q h = absurd (omega arith)
-  together zero s (C.next a p) q h = absurd (omega arith)
+  together zero s (C.then a p) q h = absurd (omega arith)
   together {i} {m} {k} (suc n) s (last a) (last b) h =
       rw (view-end s (view n₀ i (element c i)) a, eq-eqb i i refl, same-ends s a b, append-nil (sector c i), append-nil (sector d i)) (at-end (sameSector i) (eqb m k))
-  together {i} {m} {k} (suc n) s (last a) (C.next b q) h =
+  together {i} {m} {k} (suc n) s (last a) (C.then b q) h =
       let x = starts q in
       rw (ne-eqb (element c i) (element d i) (λ e. ends-or-names s (rw e at a) b), eq-eqb i i refl, x .1) (and-false (sameSector i))
-  together {i} {m} {k} (suc n) s (C.next a p) (last b) h =
+  together {i} {m} {k} (suc n) s (C.then a p) (last b) h =
       let x = starts p in
       rw (ne-eqb (element c i) (element d i) (λ e. ends-or-names s b (rw e at a)), eq-eqb i i refl, x .1) (and-false (sameSector i))
-  together {i} {m} {k} (suc n) s (C.next {ss = ss} a p) (C.next {ss = ts} b q) h = elim (ℕ-discrete (element c i) (element d i)) [
+  together {i} {m} {k} (suc n) s (C.then {ss = ss} a p) (C.then {ss = ts} b q) h = elim (ℕ-discrete (element c i) (element d i)) [
     | no z ↦ rw (ne-eqb (element c i) (element d i) z, eq-eqb i i refl, starts-apart p q z) (and-false (sameSector i))
     | yes z ↦
         rw (

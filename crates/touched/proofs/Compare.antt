@@ -6,20 +6,21 @@ use mathlib.Core.List.{List}
 use Prim.Native.Nat.{ℕ, zero, suc}
 use native.Mathlib.Omega.{arith}
 use lib.ListN.{length}
+use Rattle.rules.specs.Answer.{says}
 use Rattle.chains.specs.Psi.{Ψ, tableBytes}
-use Rattle.rules.specs.Claim.{Kept, first}
+use Rattle.rules.specs.Claim.{Kept}
+use Rattle.rules.specs.First.{first}
 use Rattle.rules.proofs.ClaimLaws.{Found, none, one, found}
 use Rattle.image.specs.Image.{copy, B, S, e#, sectorAt, directoryAt, tableAt}
-use Rattle.image.specs.Obeys.{Obeys}
-use Rattle.image.specs.Rules.{verdict}
-use Rattle.image.specs.Answer.{checkOf}
+use Rattle.image.specs.Facts.{Facts}
+use Rattle.image.specs.Verdict.{verdict}
+use Rattle.image.specs.Check.{checkOf}
 use Rattle.image.specs.declared.Shape.{Shape}
 use Rattle.image.specs.declared.Checked.the-variants as K
-use Rattle.image.proofs.Accepted.{Open, refused-shut, obeys-bounds}
-use Rattle.steps.specs.Answers.{answered}
-use Rattle.steps.specs.Touched.{flagsTo, compareRules, touchedAnswer, touchedFlags}
+use Rattle.image.proofs.Accepted.{Open, refused-shut, facts-bounds}
+use Rattle.steps.specs.Flags.{flagsTo, touchedAnswer, touchedFlags}
+use Rattle.steps.specs.Touched.{compareRules}
 use Rattle.touched.specs.Together.{Both, shapeRules}
-use Rattle.steps.specs.declared.Answer.the-variants as A
 
 directories : (c d : List ℕ) → S d ≡ S c → B d ≡ B c → copy d ≡ copy c → directoryAt d ≡ directoryAt c
 unfolding directoryAt sectorAt
@@ -30,7 +31,7 @@ unfolding tableAt
 tables c d t e = rw (t, e)
 
 -- two accepted images of the same S, B, e# and copy
-one-shape : (c d : List ℕ) (g : Shape) → Open c g → Obeys d → S d ≡ S c → B d ≡ B c → e# d ≡ e# c → copy d ≡ copy c → Both c d g
+one-shape : (c d : List ℕ) (g : Shape) → Open c g → Facts d → S d ≡ S c → B d ≡ B c → e# d ≡ e# c → copy d ≡ copy c → Both c d g
 one-shape c d g o p s b e y =
     let q = o .shape in
     let t = directories c d s b y in
@@ -48,25 +49,25 @@ one-shape c d g o p s b e y =
         psi-is = q .psi-is ∙ ap Ψ (sym s);
         directory-is = q .directory-is ∙ sym t;
         table-is = q .table-is ∙ sym (tables c d t e);
-        in-bounds = obeys-bounds d p;
+        in-bounds = facts-bounds d p;
       };
     }
 
 module _ (c d f : List ℕ) where
-  pub first-refused : (n e : ℕ) → checkOf c ≡ K.Refused n e → (A.Refused n e ≡ answered (touchedAnswer c d (length f))) × (f ≡ touchedFlags c d f)
+  pub first-refused : (n e : ℕ) → checkOf c ≡ K.Refused n e → (says n e ≡ touchedAnswer c d (length f)) × (f ≡ touchedFlags c d f)
   unfolding touchedAnswer touchedFlags
   first-refused n e q = let h = refused-shut c n e q in go n (h .number-is) (h .entry-is) (h .some)
     where
-      go : (n : ℕ) → verdict c .number ≡ n → verdict c .entry ≡ e → (n ≡ 0 → ⊥) → (A.Refused n e ≡ answered (touchedAnswer c d (length f))) × (f ≡ touchedFlags c d f)
+      go : (n : ℕ) → verdict c .number ≡ n → verdict c .entry ≡ e → (n ≡ 0 → ⊥) → (says n e ≡ touchedAnswer c d (length f)) × (f ≡ touchedFlags c d f)
       go zero x y h = absurd (h refl)
       go (suc n) x y h = (rw (x, y), rw x)
 
   module _ {g : Shape} (o : Open c g) where
-    pub second-refused : (n e : ℕ) → checkOf d ≡ K.Refused n e → (A.Refused n e ≡ answered (touchedAnswer c d (length f))) × (f ≡ touchedFlags c d f)
+    pub second-refused : (n e : ℕ) → checkOf d ≡ K.Refused n e → (says n e ≡ touchedAnswer c d (length f)) × (f ≡ touchedFlags c d f)
     unfolding touchedAnswer touchedFlags
     second-refused n e q = let h = refused-shut d n e q in go n (h .number-is) (h .entry-is) (h .some)
       where
-        go : (n : ℕ) → verdict d .number ≡ n → verdict d .entry ≡ e → (n ≡ 0 → ⊥) → (A.Refused n e ≡ answered (touchedAnswer c d (length f))) × (f ≡ touchedFlags c d f)
+        go : (n : ℕ) → verdict d .number ≡ n → verdict d .entry ≡ e → (n ≡ 0 → ⊥) → (says n e ≡ touchedAnswer c d (length f)) × (f ≡ touchedFlags c d f)
         go zero x y h = absurd (h refl)
         go (suc n) x y h = (rw (o .number-zero, x, y), rw (o .number-zero, x))
 
@@ -74,15 +75,15 @@ module _ (c d f : List ℕ) where
       compared : first (compareRules c d (length f)) ≡ m
       compared = sym (e ∙ ap first (rw (o .shape-is, p .shape-is)))
 
-      pub rules-refused : m ≢ 0 → (A.Refused m 0 ≡ answered (touchedAnswer c d (length f))) × (f ≡ touchedFlags c d f)
+      pub rules-refused : m ≢ 0 → (says m 0 ≡ touchedAnswer c d (length f)) × (f ≡ touchedFlags c d f)
       unfolding touchedAnswer touchedFlags
       rules-refused z = go m compared z
         where
-          go : (m : ℕ) → first (compareRules c d (length f)) ≡ m → m ≢ 0 → (A.Refused m 0 ≡ answered (touchedAnswer c d (length f))) × (f ≡ touchedFlags c d f)
+          go : (m : ℕ) → first (compareRules c d (length f)) ≡ m → m ≢ 0 → (says m 0 ≡ touchedAnswer c d (length f)) × (f ≡ touchedFlags c d f)
           go zero x h = absurd (h refl)
           go (suc m) x h = (rw (o .number-zero, p .number-zero, x), rw (o .number-zero, p .number-zero, x))
 
-      pub compare-taken : (k : List ℕ) → m ≡ 0 → k ≡ flagsTo c d (g .entries) → (A.Taken ≡ answered (touchedAnswer c d (length f))) × (k ≡ touchedFlags c d f)
+      pub compare-taken : (k : List ℕ) → m ≡ 0 → k ≡ flagsTo c d (g .entries) → (says 0 0 ≡ touchedAnswer c d (length f)) × (k ≡ touchedFlags c d f)
       unfolding touchedAnswer touchedFlags
       compare-taken k z q =
           let x : first (compareRules c d (length f)) ≡ 0 = compared ∙ z in

@@ -12,7 +12,7 @@ use lib.Seq.{length-take-le, getD-take, getD-drop, ext-getD}
 use borrow.Author.Tests.{eq-eqb, ne-eqb}
 use Rattle.bits.specs.Bits.{Bytes, digit, field}
 use Rattle.bits.proofs.Laws.{ext, digit-field, field-part, bytes-take, bytes-drop}
-use Rattle.steps.specs.Touched.{alike}
+use Rattle.steps.specs.Flags.{alike}
 use Rattle.touched.proofs.Alike.{alike-so, so-alike}
 
 not-alike : (xs ys : List ℕ) → (xs ≡ ys → ⊥) → alike xs ys ≡ false

@@ -1,6 +1,6 @@
 -- The flags say which entries are touched: between two accepted images of one shape, entry j is flagged exactly where it is. Assumes nothing.
 use mathlib.Core.Path.{_≡_, refl, sym, ap, ap₂, _∙_}
-use mathlib.Core.Logic.{_↔_}
+use mathlib.Core.Logic.{_↔_, ⊎-elim}
 use mathlib.Core.Bool.{Bool, true, false, _&&_, true≢false}
 use mathlib.Core.List.{List}
 use Prim.Native.Nat.{ℕ, _*_, _≤_}
@@ -10,12 +10,14 @@ use lib.Dec.{eqb}
 use lib.ListN.{length, getD}
 use borrow.Author.Tests.{eqb-true, eqb-false, eq-eqb}
 use Rattle.rules.proofs.ClaimLaws.{and-true}
-use Rattle.image.specs.Image.{e#, isProduct, sectors, mark, product}
+use Rattle.image.specs.Image.{e#, sectors, mark, product}
+use Rattle.image.specs.Verdict.{isProduct}
 use Rattle.image.specs.Obeys.{IsProduct}
 use Rattle.image.specs.declared.Shape.{Shape}
 use Rattle.image.proofs.Exact.{test-product, product-test}
 use Rattle.image.proofs.First.{product-size}
-use Rattle.steps.specs.Touched.{forty, Touched, entry, chain, marked, byte, alike, sameProduct, unlessEmpty, kept, flagOf}
+use Rattle.steps.specs.Touched.{forty, Touched, entry, chain, marked, byte}
+use Rattle.steps.specs.Flags.{alike, sameProduct, unlessEmpty, kept, flagOf}
 use Rattle.steps.proofs.Touches.{differ}
 use Rattle.touched.specs.Together.{Both}
 use Rattle.touched.proofs.Alike.{alike-so, so-alike}
@@ -61,8 +63,8 @@ module _ {c d : List ℕ} {g : Shape} (b : Both c d g) (j : ℕ) (low : 1 ≤ j)
               let s = alike-so (sectors c j) (sectors d j) x in
               let n : length (product d j) ≡ length (product c j) =
               product-size d (b .obeys-after) w ∙ ap₂ (λ (l : List ℕ) (k : ℕ). length l * k) (sym s) (sym (b .shape-after .size-is) ∙ b .shape .size-is) ∙ sym (product-size c (b .obeys) v) in
-              let r = differ (product d j) (product c j) n (λ q. true≢false (sym (so-alike (product c j)) ∙ ap (alike (product c j)) (sym q) ∙ z)) in
-              byte (r .0) v (r .1)
+              ⊎-elim (λ (q : product d j ≡ product c j). absurd (true≢false (sym (so-alike (product c j)) ∙ ap (alike (product c j)) (sym q) ∙ z)))
+              (λ r. byte (r .0) v (r .1)) (differ (product d j) (product c j) n)
           third true x true y true z f = absurd (true≢false f)
 
       go : (p : Bool) → isProduct c j ≡ p → unlessEmpty p (sameProduct c d j) ≡ false → forty d j ≡ forty c j → Touched c d j

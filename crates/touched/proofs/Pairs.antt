@@ -11,11 +11,14 @@ use lib.ListN.{length, take, drop, set, length-set}
 use lib.Seq.{take-all, take-suc-set}
 use borrow.Author.Tests.{eq-eqb, ne-eqb}
 use Rattle.bits.specs.Bits.{field, pick}
-use Rattle.chains.specs.Chain.{Sector, fresh, used, blocked, Names, zero-met, above-met, comes-back, Link, end, to, bad, link}
-use Rattle.chains.specs.Packed.{packed}
+use Rattle.chains.specs.Chain.{Sector, fresh, used, blocked, Names}
+use Rattle.chains.specs.Breaks.{zero-met, above-met, comes-back}
+use Rattle.chains.specs.Walk.{Link, end, to, bad, link}
+use Rattle.chains.specs.Packed.{elementIn}
 use Rattle.chains.specs.declared.Table.{Table}
 use Rattle.chains.proofs.Laws.{View, v-end, v-to, v-bad, view, chain-short}
-use Rattle.image.specs.Image.{B, S, isProduct, element, sector, product}
+use Rattle.image.specs.Image.{B, S, element, sector, product}
+use Rattle.image.specs.Verdict.{isProduct}
 use Rattle.image.specs.Obeys.{IsProduct}
 use Rattle.image.specs.Shape.{Shaped, tableOf, sectorPlace, entryPlace}
 use Rattle.image.specs.declared.Shape.{Shape}
@@ -24,7 +27,8 @@ use Rattle.image.proofs.Stays.{chain-of}
 use Rattle.image.proofs.First.{length-sector}
 use Rattle.image.proofs.Same.{before-directory}
 use Rattle.image.proofs.Shapes.{sector-is, entry-is}
-use Rattle.steps.specs.Touched.{forty, alike, sameProduct, kept, flagOf, flagsTo}
+use Rattle.steps.specs.Touched.{forty}
+use Rattle.steps.specs.Flags.{alike, sameProduct, kept, flagOf, flagsTo}
 use Rattle.touched.specs.Together.{onward, sameFrom, chainsSame, linkNext, nextSame, Both}
 use Rattle.touched.proofs.Alike.{together}
 
@@ -34,7 +38,7 @@ sector-of : {c : List ℕ} {g : Shape} → Shaped c g → (i : ℕ) → take (g 
 unfolding sector
 sector-of {c} s i = ap₂ (λ (n a : ℕ). take n (drop a c)) (s .size-is) (sector-is s i)
 
-element-of : {c : List ℕ} {g : Shape} {t : Table} → Shaped c g → t ≡ tableOf g → (i x : ℕ) → x ≡ packed c (t .first) (t .psi) i → x ≡ element c i
+element-of : {c : List ℕ} {g : Shape} {t : Table} → Shaped c g → t ≡ tableOf g → (i x : ℕ) → x ≡ elementIn c (t .first) (t .psi) i → x ≡ element c i
 unfolding element
 element-of s k i x e = e ∙ rw (k, s .table-is, s .psi-is)
 
@@ -76,7 +80,7 @@ module _ {c d : List ℕ} {g : Shape} (b : Both c d g) where
     unfolding nextSame
     other-sector e = rw (← sectors-are, e)
 
-    module _ {t : Table} (table : t ≡ tableOf g) (x y : ℕ) (p : x ≡ packed c (t .first) (t .psi) i) (o : y ≡ packed d (t .first) (t .psi) i) (same : r ≡ true) where
+    module _ {t : Table} (table : t ≡ tableOf g) (x y : ℕ) (p : x ≡ elementIn c (t .first) (t .psi) i) (o : y ≡ elementIn d (t .first) (t .psi) i) (same : r ≡ true) where
       x-element : x ≡ element c i
       x-element = element-of (b .shape) table i x p
 

@@ -1,17 +1,17 @@
--- Two chains walked together, as the code of `touched` does: it goes on while sectors and elements are the same. No published contract cites
+-- An annex: two chains walked together, as the code of `touched` does: it goes on while sectors and elements are the same. No published contract cites
 -- it. Assumes nothing.
 use mathlib.Core.Bool.{Bool, true, _&&_}
 use mathlib.Core.List.{List, [], _∷_}
 use Prim.Native.Nat.{ℕ, zero, suc}
 use lib.Dec.{eqb}
-use Rattle.chains.specs.Chain.{Link, end, to, bad, link}
+use Rattle.chains.specs.Walk.{Link, end, to, bad, link}
 use Rattle.bits.specs.Bits.{pick}
 use Rattle.rules.specs.Claim.{_≡?_, Rule, rule}
 use Rattle.image.specs.Image.{dataset, S, element, sector}
-use Rattle.image.specs.Obeys.{Obeys}
+use Rattle.image.specs.Facts.{Facts}
 use Rattle.image.specs.Shape.{Shaped}
 use Rattle.image.specs.declared.Shape.{Shape}
-use Rattle.steps.specs.Touched.{alike}
+use Rattle.steps.specs.Flags.{alike}
 
 abbrev pub onward : Link → (ℕ → Bool) → Bool
 onward (end m) k = true
@@ -43,8 +43,8 @@ withDataset g n = record { copy = g .copy; dataset = n; size = g .size; sectors 
 
 -- two accepted images of the shape g, but for the shell's dataset
 pub record Both (c d : List ℕ) (g : Shape) : Type 0 where
-  pub obeys : Obeys c
-  pub obeys-after : Obeys d
+  pub obeys : Facts c
+  pub obeys-after : Facts d
   pub shape : Shaped c g
   pub shape-after : Shaped d (withDataset g (dataset d))
 

@@ -1,16 +1,15 @@
 // Which entries differ between two images.
 use image::Checked;
 use image::Shape;
+use rules::Answer;
 use rules::OTHER_SHAPE;
 use rules::WRONG_FLAGS;
-use steps::Answer;
 ghost use mathlib.Core.Path.{_≡_};
 ghost use Prim.Native.Nat.{_+_, _-_, _≤_};
 ghost use lib.ListN.{length, take, drop};
-ghost use Rattle.rules.specs.Claim.{first};
+ghost use Rattle.rules.specs.First.{first};
 ghost use Rattle.chains.specs.Chain.{Sector};
-ghost use Rattle.steps.specs.Answers.{answered};
-ghost use Rattle.steps.specs.Touched.{alike, kept, flagOf, flagsTo, touchedAnswer, touchedFlags};
+ghost use Rattle.steps.specs.Flags.{alike, kept, flagOf, flagsTo, touchedAnswer, touchedFlags};
 ghost use Rattle.touched.specs.Together.{Both, nextSame, chainsSame, shapeRules};
 
 // Whether the eight bytes from byte `from` on are the same in both images.
@@ -143,19 +142,31 @@ fn compare_number(g: Shape, h: Shape, flags: usize) -> usize
 // Which entries differ between two images: flag j - 1 is 1 where entry j is touched, else 0. Refused: the first image's own numbers, the second's,
 // 90 (images of another S, B, e# or copy), 91 (flags that are not e# bytes); the flags are then as they were.
 pub fn touched(before: &[u8], after: &[u8], flags: &mut [u8]) -> Answer
-    ensures { λ r. ⌜ (r ≡ answered (touchedAnswer (now (before .entry)) (now (after .entry)) (length (now (flags .entry))))) × (now (flags .exit) ≡ touchedFlags (now (before .entry)) (now (after .entry)) (now (flags .entry))) ⌝ }
+    ensures { λ r. ⌜ (r ≡ touchedAnswer (now (before .entry)) (now (after .entry)) (length (now (flags .entry)))) × (now (flags .exit) ≡ touchedFlags (now (before .entry)) (now (after .entry)) (now (flags .entry))) ⌝ }
 {
     match verdict::check(before) {
-        Checked::Refused(n, e) => Answer::Refused(n, e),
+        Checked::Refused(n, e) => Answer {
+            number: n,
+            entry: e,
+        },
         Checked::Accepted(g) => match verdict::check(after) {
-            Checked::Refused(n, e) => Answer::Refused(n, e),
+            Checked::Refused(n, e) => Answer {
+                number: n,
+                entry: e,
+            },
             Checked::Accepted(h) => {
                 let n = compare_number(g, h, flags.len());
                 if n != 0 {
-                    return Answer::Refused(n, 0);
+                    return Answer {
+                        number: n,
+                        entry: 0,
+                    };
                 }
                 fill_flags(before, after, g, flags);
-                Answer::Taken
+                Answer {
+                    number: 0,
+                    entry: 0,
+                }
             }
         },
     }

@@ -1,5 +1,6 @@
 -- The pass over the entries keeps what it finds of one of them, `at j` of entry j: before that entry it holds 0, after it what was found. Assumes nothing.
 use mathlib.Core.Path.{_≡_, refl, sym, _∙_}
+use mathlib.Core.Bool.{Bool, true, false}
 use Prim.Native.Nat.{ℕ, _+_, _≤_, _<_}
 use native.Mathlib.Omega.{arith}
 use native.Mathlib.Decide.{ℕ-discrete, decLt}
@@ -39,3 +40,8 @@ module _ {at : ℕ → ℕ} {j : ℕ} where
       | yes l ↦ h .passed l
       | no l ↦ h .ahead (omega arith) ∙ sym (z (omega arith))
     ]
+
+-- what is chosen is below what both are below
+pub pick-lt : (b : Bool) (x y : ℕ) {n : ℕ} → x < n → y < n → pick b x y < n
+pick-lt true x y h k = h
+pick-lt false x y h k = k

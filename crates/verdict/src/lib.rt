@@ -13,15 +13,15 @@ use rules::SHARED_SECTOR;
 ghost use mathlib.Core.Path.{_≡_};
 ghost use Prim.Native.Nat.{_/_, _%_, _≤_, _<_};
 ghost use Rattle.bits.specs.Bits.{pick};
-ghost use Rattle.chains.specs.Chain.{walk};
+ghost use Rattle.chains.specs.Walk.{walk};
 ghost use Rattle.chains.specs.Packed.{lastLeft};
 ghost use Rattle.rules.specs.Lowest.{lowest};
-ghost use Rattle.image.specs.Image.{S, e#, isProduct, element};
+ghost use Rattle.image.specs.Image.{S, e#, element};
+ghost use Rattle.image.specs.Verdict.{isProduct, brokenAt, sharesAt};
 ghost use Rattle.image.specs.Bounds.{Bounds};
 ghost use Rattle.image.specs.Shape.{Shaped};
-ghost use Rattle.image.specs.Answer.{checkOf};
+ghost use Rattle.image.specs.Check.{checkOf};
 ghost use Rattle.image.specs.Found.{foundOf, lastAt, countAt};
-ghost use Rattle.image.specs.Rules.{brokenAt, sharesAt};
 ghost use Rattle.verdict.specs.Passed.{passedOf, unsoundOf};
 
 // Whether entry j is not empty: TYP's byte is looked at first.
@@ -69,23 +69,17 @@ fn first_broken(image: &[u8], g: Shape) -> usize
     0
 }
 
-// What the pass over the chains tells: of the entry asked for, its chain's last sector and the number of its sectors, 0 and 0 where it is no
-// product; or 10 or 11.
-pub enum Passed {
-    All(usize, usize),
-    Refused(usize, usize),
-}
-
-// Where that pass stops at entry k: 10 at the lowest entry whose chain is broken, else 11 at k.
-fn unsound(image: &[u8], g: Shape, k: usize) -> Passed
-    requires { ⌜ Shaped (now image) g ⌝ }
+// Where the pass over the chains stops at entry k: 10 at the lowest entry whose chain is broken, else 11 at k, with 256 for each entry up to that one. It
+// reads the shape anew: handed on, its nine numbers would go through memory on every card.
+fn unsound(image: &[u8], k: usize) -> usize
+    requires { ⌜ Bounds (now image) × (k ≤ 255) ⌝ }
     ensures { λ r. ⌜ r ≡ unsoundOf (lowest (e# (now (image .entry))) (brokenAt (now (image .entry)))) k ⌝ }
 {
-    let j = first_broken(image, g);
+    let j = first_broken(image, measure::shape_of(image));
     if j != 0 {
-        return Passed::Refused(BROKEN_CHAIN, j);
+        return BROKEN_CHAIN + 256 * j;
     }
-    Passed::Refused(SHARED_SECTOR, k)
+    SHARED_SECTOR + 256 * k
 }
 
 // `new` where it is asked for, else `old`.
@@ -95,9 +89,10 @@ fn chosen(asked: bool, new: usize, old: usize) -> usize
     if asked { new } else { old }
 }
 
-// 10 and 11, in one pass over the entries, which keeps what it finds of one entry. The walks together are allowed S-3 elements, which is enough
-// while no two chains share a sector. Where there is no chain the walk gives 0, which counts as a last sector met before.
-fn chains(image: &[u8], entry: usize) -> Passed
+// 10 and 11, in one pass over the entries, as `unsound` gives them; else what it finds of one entry, 65536 times: its chain's last sector, and 256 for each
+// of its sectors, 0 where it is no product. The walks together are allowed S-3 elements, which is enough while no two chains share a sector. Where there is
+// no chain the walk gives 0, which counts as a last sector met before; it is asked for first, which is cheaper.
+fn chains(image: &[u8], entry: usize) -> usize
     requires { ⌜ Bounds (now image) ⌝ }
     ensures { λ r. ⌜ r ≡ passedOf (lowest (e# (now (image .entry))) (brokenAt (now (image .entry)))) (lowest (e# (now (image .entry))) (sharesAt (now (image .entry)))) (lastAt (now (image .entry)) entry) (countAt (now (image .entry)) entry) ⌝ }
 {
@@ -105,25 +100,26 @@ fn chains(image: &[u8], entry: usize) -> Passed
     let mut seen = [0u8; 256];
     seen[0] = 1;
     let mut left = 256 * (g.sectors - 3);
-    let mut last: usize = 0;
-    let mut taken: usize = 0;
+    let mut told: usize = 0;
     let mut k: usize = 1;
     while k <= g.entries {
         if present(image, g, k) {
             let r = walk_of(image, g, k, left);
+            if r == 0 {
+                return unsound(image, k);
+            }
             let end = chains::last(r);
             if seen[end] != 0 {
-                return unsound(image, g, k);
+                return unsound(image, k);
             }
             seen[end] = 1;
-            last = chosen(k == entry, end, last);
             let after = chains::left(r);
-            taken = chosen(k == entry, left - after, taken);
+            told = chosen(k == entry, end + (left - after), told);
             left = after;
         }
         k += 1;
     }
-    Passed::All(last, taken / 256)
+    65536 * told
 }
 
 // Whether an image is acceptable: the number and entry that document 01 gives, or its shape.
@@ -134,10 +130,11 @@ pub fn check(image: &[u8]) -> Checked
     if n != 0 {
         return Checked::Refused(n, 0);
     }
-    match chains(image, 0) {
-        Passed::Refused(n, e) => Checked::Refused(n, e),
-        Passed::All(_, _) => Checked::Accepted(measure::shape_of(image)),
+    let r = chains(image, 0);
+    if r % 65536 != 0 {
+        return Checked::Refused(r % 256, r / 256);
     }
+    Checked::Accepted(measure::shape_of(image))
 }
 
 // The product of an entry: the image's own numbers first, then 20.
@@ -148,13 +145,13 @@ pub fn find(image: &[u8], entry: usize) -> Found
     if n != 0 {
         return Found::Not(n, 0);
     }
-    match chains(image, entry) {
-        Passed::Refused(n, e) => Found::Not(n, e),
-        Passed::All(last, count) => {
-            if last == 0 {
-                return Found::Not(NO_PRODUCT, entry);
-            }
-            Found::There(last, count)
-        }
+    let r = chains(image, entry);
+    if r % 65536 != 0 {
+        return Found::Not(r % 256, r / 256);
     }
+    let last = r / 65536 % 256;
+    if last == 0 {
+        return Found::Not(NO_PRODUCT, entry);
+    }
+    Found::There(last, r / 16777216)
 }

@@ -6,24 +6,26 @@ use lib.Count.{leadingZeros}
 use lib.ListN.{length}
 use Rattle.bits.specs.Bits.{digit, bit, number, field}
 use Rattle.fields.specs.Fields.{fields, limits}
-use Rattle.chains.specs.Chain.{link, member, walkOn}
+use Rattle.chains.specs.Walk.{link, member, walkOn}
 use Rattle.chains.specs.Products as products
 use Rattle.chains.specs.Products.{meet, some}
 use Rattle.chains.specs.Psi.{Ψ, tableBytes}
 use Rattle.crc.specs.Crc.{clock, clocks, register, crc}
-use Rattle.rules.specs.Claim.{all, first}
+use Rattle.rules.specs.First.{all, first}
 use Rattle.rules.specs.Lowest.{lowest}
-use Rattle.image.specs.Image.{stated, version, copy, shellValues, dataset, B, S, e#, SCTL, shellPad, SECR, beforeSECR, sectorAt, directoryAt, entryAt, tableAt, isProduct, element, tablePad, chain, sectors, mark, sector, joined, product}
-use Rattle.image.specs.Product.{elementAt, productAt, seen}
-use Rattle.image.specs.Rules.{rules, brokenAt, sharesAt, Verdict, verdict}
+use Rattle.image.specs.Image.{stated, version, copy, shellValues, dataset, B, S, e#, SCTL, shellPad, SECR, beforeSECR, sectorAt, directoryAt, entryAt, tableAt, element, tablePad, chain, sectors, mark, sector, joined, product}
+use Rattle.rules.specs.Answer.{says}
+use Rattle.rules.specs.declared.Answer.{Answer}
+use Rattle.image.specs.Verdict.{isProduct, brokenAt, sharesAt, verdict}
+use Rattle.image.specs.Product.{elementAt, productAt}
+use Rattle.image.specs.Seen.{seen, asked}
+use Rattle.image.specs.Rules.{rules}
 use Rattle.ticket.specs.Kind.{mostOf}
-use Rattle.image.specs.Product.{asked}
-use Rattle.reads.specs.Ticket.{refusal, readTicket}
+use Rattle.reads.specs.Ticket.{ticketRefusal, readTicket}
 use Rattle.worked.specs.Cards.{shellStart, shellSector, directory, card, card17, smallCard}
-use Rattle.worked.specs.Worked.{at}
 
 -- the verdict, with all that it stands on opened
-unfoldable pub judge : List ℕ → Verdict
+unfoldable pub judge : List ℕ → Answer
 unfolding verdict rules first all stated version copy shellValues fields dataset B S e# SCTL shellPad SECR beforeSECR sectorAt directoryAt entryAt tableAt isProduct Ψ tableBytes element tablePad chain sectors brokenAt products.brokenAt member meet some sharesAt products.sharesAt lowest field number bit digit leadingZeros walkOn link crc register clocks clock
 judge c = verdict c
 
@@ -35,24 +37,24 @@ unfolding judge product joined sector sectors card shellSector shellStart direct
 sizes = (refl, refl)
 
 -- once blocked, it is accepted, and entry 1 is marked so
-blocked : (verdict (card 0x32 0xE0) ≡ at 0 0) × (mark (card 0x32 0xE0) 1 ≡ 2)
+blocked : (verdict (card 0x32 0xE0) ≡ says 0 0) × (mark (card 0x32 0xE0) 1 ≡ 2)
 unfolding judge mark card shellSector shellStart directory
 blocked = (refl, refl)
 
 -- S 17: an element of 16, S - 1, ends a chain in use, and an element of 17 is number 10
-ends-17 : verdict (card17 0x18 0xA0) ≡ at 0 0
+ends-17 : verdict (card17 0x18 0xA0) ≡ says 0 0
 unfolding judge card17 shellStart directory
 ends-17 = refl
 
-above-17 : verdict (card17 0x18 0xA2) ≡ at 10 1
+above-17 : verdict (card17 0x18 0xA2) ≡ says 10 1
 unfolding judge card17 shellStart directory
 above-17 = refl
 
 -- IPELength 7 is 23, 8 passes
 length-7 : (readTicket (smallCard 0x1C 0x02) 1 32 .number ≡ 23) × (readTicket (smallCard 0x1C 0x02) 1 32 .entry ≡ 1)
-unfolding judge readTicket refusal asked seen productAt elementAt product joined sector sectors mark mostOf limits smallCard shellStart
+unfolding judge readTicket ticketRefusal asked seen productAt elementAt product joined sector sectors mark mostOf limits smallCard shellStart
 length-7 = (refl, refl)
 
 length-8 : (readTicket (smallCard 0x20 0x02) 1 32 .number ≡ 0) × (readTicket (smallCard 0x20 0x02) 1 32 .entry ≡ 0)
-unfolding judge readTicket refusal asked seen productAt elementAt product joined sector sectors mark mostOf limits smallCard shellStart
+unfolding judge readTicket ticketRefusal asked seen productAt elementAt product joined sector sectors mark mostOf limits smallCard shellStart
 length-8 = (refl, refl)

@@ -1,4 +1,6 @@
 pub mod Cards
+pub mod Pinned
 pub mod Sizes
 pub mod Readings
 pub mod Worked
+pub mod Told

@@ -2,8 +2,10 @@
 -- is proved in image (Limits). Assumes nothing.
 use mathlib.Core.Path.{_≡_, refl}
 use lib.ListN.{length}
+use Rattle.bits.specs.Bits.{Bytes}
+use Rattle.bits.proofs.Laws.{below, below-bytes}
 use Rattle.image.specs.Obeys.{Obeys}
-use Rattle.image.proofs.Exact.{accepts}
+use Rattle.image.proofs.Exact.{accepted-exactly}
 use Rattle.worked.specs.Cards.{shellStart, smallCard, largest}
 use Rattle.worked.proofs.Cards.{judge}
 
@@ -15,11 +17,19 @@ largest-accepted : (length largest ≡ 60439) × (judge largest .number ≡ 0)
 unfolding judge largest shellStart
 largest-accepted = (refl, refl)
 
--- both obey
-pub smallest-obeys : Obeys (smallCard 0 0)
-unfolding judge
-smallest-obeys = accepts (smallCard 0 0) .0 (smallest-accepted .1)
+smallest-bytes : Bytes (smallCard 0 0)
+unfolding below smallCard shellStart
+smallest-bytes = below-bytes (smallCard 0 0) tt
 
-pub largest-obeys : Obeys largest
+largest-bytes : Bytes largest
+unfolding below largest shellStart
+largest-bytes = below-bytes largest tt
+
+-- both obey
+pub smallest-obeys : Bytes (smallCard 0 0) × Obeys (smallCard 0 0) × (length (smallCard 0 0) ≡ 132)
 unfolding judge
-largest-obeys = accepts largest .0 (largest-accepted .1)
+smallest-obeys = (smallest-bytes, accepted-exactly (smallCard 0 0) .0 (smallest-accepted .1), smallest-accepted .0)
+
+pub largest-obeys : Bytes largest × Obeys largest × (length largest ≡ 60439)
+unfolding judge
+largest-obeys = (largest-bytes, accepted-exactly largest .0 (largest-accepted .1), largest-accepted .0)

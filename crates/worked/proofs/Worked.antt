@@ -2,13 +2,16 @@
 -- Assumes nothing.
 use mathlib.Core.Path.{refl}
 use Rattle.bits.specs.Bits.{digit, bit, number, bytes, stored, store}
-use Rattle.fields.specs.Fields.{stores, limits, above, packNumber}
-use Rattle.rules.specs.Claim.{all, first}
+use Rattle.fields.specs.Fields.{stores, limits}
+use Rattle.fields.specs.Packed.{above, packNumber}
+use Rattle.rules.specs.First.{all, first}
 use Rattle.dates.proofs.Examples as dates
 use Rattle.ticket.specs.Kind.{mostOf}
 use Rattle.image.specs.Image.{sectors, mark, product, joined, sector}
-use Rattle.image.specs.Product.{elementAt, productAt, seen}
-use Rattle.steps.specs.Steps.{stepRules, answer, next}
+use Rattle.image.specs.Product.{elementAt, productAt}
+use Rattle.image.specs.Seen.{seen}
+use Rattle.steps.specs.Step.{stepRules}
+use Rattle.steps.specs.Steps.{answer, next}
 use Rattle.worked.specs.Cards.{shellStart, shellSector, directory, card}
 use Rattle.worked.specs.Worked.{Worked}
 use Rattle.worked.proofs.Cards.{judge}

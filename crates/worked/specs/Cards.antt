@@ -1,4 +1,5 @@
--- Cards byte by byte: those of document 01, "Examples by hand", and the smallest and largest of "The image". Assumes nothing.
+-- An annex: cards byte by byte: those of document 01, "Examples by hand", the smallest and largest of "The image", one with two directory copies that differ, and
+-- one with a ticket of two sectors. Assumes nothing.
 use mathlib.Core.List.{List, [], _∷_, _++_}
 use Prim.Native.Nat.{ℕ}
 use lib.ListN.{replicate}
@@ -21,6 +22,10 @@ directory a b =
 unfoldable pub card : ℕ → ℕ → List ℕ
 card a b = 0x04 ∷ 0x04 ∷ 1 ∷ 0 ∷ shellSector ++ (replicate 832 0 ++ (directory a b ++ replicate 64 0))
 
+-- the same with a copy A whose chains share a sector: copy k is in force, and the table of copy B is 32, b and zeros
+unfoldable pub copies : ℕ → ℕ → List ℕ
+copies k b = 0x04 ∷ 0x04 ∷ 1 ∷ k ∷ shellSector ++ (replicate 832 0 ++ (directory 0x33 0xF0 ++ directory 0x32 b))
+
 -- the same of S 17, where Ψ is 5 and SCTL 9
 unfoldable pub card17 : ℕ → ℕ → List ℕ
 card17 a b =
@@ -41,3 +46,15 @@ largest =
     0xEC ∷ 0x17 ∷ 1 ∷ 0
     ∷ shellStart ++ (0xFF ∷ 0xED ∷ 0x01 ∷ 0xEA ∷ 0x00 ∷ 0x00 ∷ 0xF9 ∷ 0xFC
     ∷ (replicate 59901 0 ++ (0 ∷ 1 ∷ 0x00 ∷ 0x06 ∷ 0xE1 ∷ 0x00 ∷ 0x01 ∷ 0x01 ∷ replicate 502 0)))
+
+-- S 6, B 32, e# 2: the ticket of entry 1 is in sectors 1 and 3, with a and b as its bytes 9 and 10; entry 2 has sector 2; t is the table's second byte,
+-- 0x80 where entry 1 is used and 0x00 where it is blocked
+unfoldable pub ticketCard : ℕ → ℕ → ℕ → List ℕ
+ticketCard a b t =
+    0x00 ∷ 0xC4 ∷ 1 ∷ 0
+    ∷ shellStart ++ (0x20 ∷ 0x06 ∷ 0x02 ∷ 0x02 ∷ 0x00 ∷ 0x00 ∷ 0x07 ∷ 0x12 ∷ replicate 8 0
+    ++ (0x40 ∷ 0x02 ∷ 0x1E ∷ 0x02 ∷ 0x01 ∷ 0x05 ∷ 0x4F ∷ 0xA7 ∷ 0x0F ∷ a ∷ b ∷ 0x53 ∷ 0x02 ∷ 0x01 ∷ 0x04 ∷ 0x96
+    ∷ 0x00 ∷ 0x01 ∷ 0x86 ∷ 0xA0 ∷ 0x37 ∷ 0xD0 ∷ 0x07 ∷ 0x5B ∷ 0xCD ∷ 0x15 ∷ 0x15 ∷ 0x12 ∷ 0x34 ∷ 0xAA ∷ 0xBB ∷ 0xCC
+    ∷ 0x20 ∷ 0x02 ∷ replicate 30 0x22
+    ++ (replicate 32 0x33
+    ++ (0 ∷ 0 ∷ 0x00 ∷ 0x06 ∷ 0xE1 ∷ 0x27 ∷ 0x10 ∷ 0x00 ∷ 0x06 ∷ 0xE1 ∷ 0x00 ∷ 0x01 ∷ 0x6A ∷ t ∷ replicate 50 0))))

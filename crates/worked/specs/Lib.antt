@@ -1,2 +1,4 @@
 pub mod Cards
+pub mod Pinned
 pub mod Worked
+pub mod Told

@@ -5,15 +5,15 @@ use mathlib.Core.List.{List, [], _∷_}
 use Prim.Native.Nat.{ℕ, zero, suc, _≤_, _<_}
 use native.Mathlib.Omega.{arith}
 use borrow.Author.Tests.{le-leb, lt-leb}
-use Rattle.rules.specs.Claim.{Rule, first}
+use Rattle.rules.specs.Answer.{says}
+use Rattle.rules.specs.Claim.{Rule}
+use Rattle.rules.specs.First.{first}
 use Rattle.rules.proofs.ClaimLaws.{Numbered, orElse, first-append}
 use Rattle.ticket.specs.Kind.{setRules, recordRule}
-use Rattle.image.specs.Obeys.{Present}
+use Rattle.image.specs.Facts.{Present}
 use Rattle.image.specs.Product.{Product, productAt}
-use Rattle.steps.specs.Step.{Step, write, writeAll, owner}
-use Rattle.steps.specs.Steps.{kindOf, writeRules, stepRules, answer, next}
-use Rattle.steps.specs.Answers.{answered}
-use Rattle.steps.specs.declared.Answer.the-variants as A
+use Rattle.steps.specs.Step.{Step, write, writeAll, owner, kindOf, writeRules, stepRules}
+use Rattle.steps.specs.Steps.{answer, next}
 use Rattle.steps.proofs.Acts.{Taken, kept-taken, kept-first}
 use Rattle.steps.proofs.Calls.{failed-answer}
 
@@ -36,12 +36,12 @@ module _ (c : List ℕ) (s : Step) (p : Present c (owner s)) (rs : List Rule) (i
   both : first (stepRules (productAt c (owner s)) s) ≡ orElse (first (writeRules (productAt c (owner s)) [])) (first rs)
   both = ap first is ∙ first-append (writeRules (productAt c (owner s)) []) rs (rest-numbered (productAt c (owner s)))
 
-  pub early-answer : (n : ℕ) → n ≡ first (writeRules (productAt c (owner s)) []) → n ≢ 0 → (A.Refused n (owner s) ≡ answered (answer c s)) × (c ≡ next c s)
+  pub early-answer : (n : ℕ) → n ≡ first (writeRules (productAt c (owner s)) []) → n ≢ 0 → (says n (owner s) ≡ answer c s) × (c ≡ next c s)
   early-answer zero e h = absurd (h refl)
   early-answer (suc n) e h = failed-answer c s (suc n) p (rw (both, ← e)) h
 
   pub late-answer : (n m : ℕ) → n ≡ first (writeRules (productAt c (owner s)) []) → n ≡ 0 → m ≡ first rs → m ≢ 0
-      → (A.Refused m (owner s) ≡ answered (answer c s)) × (c ≡ next c s)
+      → (says m (owner s) ≡ answer c s) × (c ≡ next c s)
   late-answer n m e z f h = failed-answer c s m p (rw (both, ← e, z, ← f)) h
 
   pub write-taken : (n m : ℕ) → n ≡ first (writeRules (productAt c (owner s)) []) → n ≡ 0 → m ≡ first rs → m ≡ 0 → Taken c s

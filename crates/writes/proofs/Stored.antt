@@ -9,8 +9,7 @@ use Rattle.bits.specs.Bits.{Bytes, store}
 use Rattle.bits.proofs.Laws.{store-part}
 use Rattle.fields.specs.declared.Span.{Span}
 use Rattle.fields.specs.Lists.{listOf, nth}
-use Rattle.fields.specs.Fields.{stores}
-use Rattle.fields.specs.Shifted.{shifted}
+use Rattle.fields.specs.Fields.{stores, shifted}
 use Rattle.fields.proofs.Joined.{place-fits, lists-joined}
 use Rattle.fields.proofs.Only.{joined-inside}
 use Rattle.fields.proofs.Parts.{stores-part}

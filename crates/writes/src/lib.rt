@@ -3,29 +3,27 @@ use fields::Layout;
 use image::Found;
 use image::Shape;
 use image::values;
+use rules::Answer;
 use rules::BLOCKED;
 use rules::OTHER_KIND;
 use rules::WRONG_EXTENT;
-use steps::Answer;
 use ticket::Extent;
 use ticket::Form;
-use ticket::Record;
 ghost use mathlib.Core.Path.{_≡_};
 ghost use mathlib.Core.List.{[], _∷_};
 ghost use Prim.Native.Nat.{_-_, _*_, _≤_};
 ghost use lib.ListN.{length};
 ghost use Rattle.fields.specs.Lists.{listOf, nth};
-ghost use Rattle.fields.specs.Fields.{stores, lowest};
-ghost use Rattle.fields.specs.Shifted.{shifted};
-ghost use Rattle.rules.specs.Claim.{first};
+ghost use Rattle.fields.specs.Fields.{stores, shifted};
+ghost use Rattle.fields.specs.Packed.{firstAbove};
+ghost use Rattle.rules.specs.First.{first};
 ghost use Rattle.ticket.specs.Kind.{kind, countOf, mostOf};
 ghost use Rattle.image.specs.Image.{sectorAt, sectors, mark};
 ghost use Rattle.image.specs.Shape.{Shaped};
 ghost use Rattle.image.specs.Product.{productAt};
-ghost use Rattle.steps.specs.Step.{write, writeAll};
-ghost use Rattle.steps.specs.Steps.{kindOf, writeRules, answer, next};
-ghost use Rattle.image.specs.Obeys.{Present};
-ghost use Rattle.steps.specs.Answers.{answered};
+ghost use Rattle.steps.specs.Step.{write, writeAll, kindOf, writeRules};
+ghost use Rattle.steps.specs.Steps.{answer, next};
+ghost use Rattle.image.specs.Facts.{Present};
 
 // 22 and 23 of a product of `size` bytes; 0 where neither is given. It has one caller, so that each place folds to a constant.
 fn kind_number(image: &[u8], g: Shape, entry: usize, size: usize) -> usize
@@ -72,20 +70,20 @@ fn store_field(image: &mut [u8], g: Shape, entry: usize, field: usize, value: u6
 }
 
 // Stores all fields of the product, in the part of the image that is its first sector.
-fn store_record(image: &mut [u8], g: Shape, entry: usize, t: Record)
+fn store_record(image: &mut [u8], g: Shape, entry: usize, values: &[u64])
     requires { ⌜ Shaped (now image) g ⌝ }
     requires { ⌜ (1 ≤ entry) × (entry ≤ g .entries) ⌝ }
-    requires { ⌜ lowest (mostOf kind) (t .values) ≡ 0 ⌝ }
-    ensures { λ _. ⌜ now (image .exit) ≡ stores (now (image .entry)) (shifted (8 * sectorAt (now (image .entry)) entry) (listOf kind)) (t .values) ⌝ }
+    requires { ⌜ (length (now values) ≡ 22) × (firstAbove (mostOf kind) (now values) ≡ 0) ⌝ }
+    ensures { λ _. ⌜ now (image .exit) ≡ stores (now (image .entry)) (shifted (8 * sectorAt (now (image .entry)) entry) (listOf kind)) (now (values .entry)) ⌝ }
 {
     let from = image::sector_at(g, entry);
     let to = from + g.size;
-    ticket::store_record(&mut image[from..to], t)
+    ticket::store_record(&mut image[from..to], values)
 }
 
 // Writes a field of a ticket. Refused: the image's own numbers, 20, 27, 22, 23, 25, 26.
 pub fn write_field(image: &mut [u8], entry: usize, field: usize, value: u64) -> Answer
-    ensures { λ r. ⌜ (r ≡ answered (answer (now (image .entry)) (write entry field value))) × (now (image .exit) ≡ next (now (image .entry)) (write entry field value)) ⌝ }
+    ensures { λ r. ⌜ (r ≡ answer (now (image .entry)) (write entry field value)) × (now (image .exit) ≡ next (now (image .entry)) (write entry field value)) ⌝ }
 {
     match verdict::find(image, entry) {
         Found::There(last, count) => {
@@ -93,22 +91,35 @@ pub fn write_field(image: &mut [u8], entry: usize, field: usize, value: u64) -> 
             let marked = image::mark_of(image, g, last);
             let n = write_number(image, g, entry, count, marked);
             if n != 0 {
-                return Answer::Refused(n, entry);
+                return Answer {
+                    number: n,
+                    entry: entry,
+                };
             }
             let m = ticket::field_number(field, value);
             if m != 0 {
-                return Answer::Refused(m, entry);
+                return Answer {
+                    number: m,
+                    entry: entry,
+                };
             }
             store_field(image, g, entry, field, value);
-            Answer::Taken
+            Answer {
+                number: 0,
+                entry: 0,
+            }
         }
-        Found::Not(n, e) => Answer::Refused(n, e),
+        Found::Not(n, e) => Answer {
+            number: n,
+            entry: e,
+        },
     }
 }
 
-// Writes all fields of a ticket. Refused: the image's own numbers, 20, 27, 22, 23, 26.
-pub fn write_record(image: &mut [u8], entry: usize, t: Record) -> Answer
-    ensures { λ r. ⌜ (r ≡ answered (answer (now (image .entry)) (writeAll entry (t .values)))) × (now (image .exit) ≡ next (now (image .entry)) (writeAll entry (t .values))) ⌝ }
+// Writes all fields of a ticket, whose values are lent: copying twenty-two of them costs more than the rest of the write. Refused: the image's own
+// numbers, 20, 27, 22, 23, 26.
+pub fn write_record(image: &mut [u8], entry: usize, values: &[u64; 22]) -> Answer
+    ensures { λ r. ⌜ (r ≡ answer (now (image .entry)) (writeAll entry (now (values .entry)))) × (now (image .exit) ≡ next (now (image .entry)) (writeAll entry (now (values .entry)))) ⌝ }
 {
     match verdict::find(image, entry) {
         Found::There(last, count) => {
@@ -116,15 +127,27 @@ pub fn write_record(image: &mut [u8], entry: usize, t: Record) -> Answer
             let marked = image::mark_of(image, g, last);
             let n = write_number(image, g, entry, count, marked);
             if n != 0 {
-                return Answer::Refused(n, entry);
+                return Answer {
+                    number: n,
+                    entry: entry,
+                };
             }
-            let m = ticket::record_number(t);
+            let m = ticket::record_number(values);
             if m != 0 {
-                return Answer::Refused(m, entry);
+                return Answer {
+                    number: m,
+                    entry: entry,
+                };
             }
-            store_record(image, g, entry, t);
-            Answer::Taken
+            store_record(image, g, entry, values);
+            Answer {
+                number: 0,
+                entry: 0,
+            }
         }
-        Found::Not(n, e) => Answer::Refused(n, e),
+        Found::Not(n, e) => Answer {
+            number: n,
+            entry: e,
+        },
     }
 }

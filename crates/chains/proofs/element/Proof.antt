@@ -5,7 +5,7 @@ use Prim.Native.Nat.{ℕ, _+_, _-_, _*_, _/_, _%_, _^_, _≤_, _<_}
 use Rattle.bits.specs.Bits.{field}
 use mathlib.Core.List.{List}
 use lib.ListN.{getD, length}
-use Rattle.chains.specs.Packed.{elementAt, packed}
+use Rattle.chains.specs.Packed.{elementAt, elementIn}
 use Rattle.bits.proofs.Laws.{field-byte}
 use native.Mathlib.Omega.{arith}
 use borrow.Author.Needs.{needs}
@@ -15,7 +15,7 @@ use Rattle.chains.proofs.element.Tie as tie
 
 -- an element of eight bits is a byte
 whole-byte : (l : List ℕ) (first p i : ℕ) → p ≡ 8 → first % 8 ≡ 0 → getD l (first / 8 + (i - 1)) 0 < 256
-    → getD l (first / 8 + (i - 1)) 0 ≡ packed l first p i
+    → getD l (first / 8 + (i - 1)) 0 ≡ elementIn l first p i
 whole-byte l first p i e w h =
     sym (field-byte l (first / 8 + (i - 1)) h)
     ∙ ap (λ (q : ℕ). field l q 8) (let z : 8 * (first / 8 + (i - 1)) ≡ first + 8 * (i - 1) = omega arith in z)

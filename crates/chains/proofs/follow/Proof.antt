@@ -6,7 +6,7 @@ use native.Mathlib.Omega.{arith}
 use borrow.Author.Needs.{needs}
 use lib.ListN.{length, length-set}
 use Rattle.chains.specs.Chain.{Sector}
-use Rattle.chains.specs.Packed.{packed}
+use Rattle.chains.specs.Packed.{elementIn}
 use Rattle.chains.specs.Owners.{follow}
 use Rattle.chains.specs.declared.Table.{Table}
 use Rattle.chains.proofs.Links.{names}
@@ -15,7 +15,7 @@ use Rattle.chains.proofs.follow.Statement.{statement}
 use Rattle.chains.proofs.follow.Tie as tie
 
 abbrev elements : List ℕ → Table → ℕ → ℕ
-elements l t = packed l (t .first) (t .psi)
+elements l t = elementIn l (t .first) (t .psi)
 
 abbrev Inv-loop : tie.InvT-loop
 Inv-loop l t k left owner₀ i₀ n₀ owner i n = (length owner ≡ 256) × (n ≤ left) × Sector (t .sectors) i × (follow (elements l t) (t .sectors) k n owner i ≡ follow (elements l t) (t .sectors) k left owner₀ k)

@@ -14,7 +14,7 @@ returns : tie.Need-returns
 returns c =
     let a = c .before .args in
     let y = c .clocked in
-    (fewer 0 64 (a .r) (a .w) _ (y .result) refl (omega arith) (search needs) (search needs) (omega (arith, xor-lt 64 (c .before .args .r) (c .before .args .w) (search needs) (search needs))) (y .ensures .0), y .ensures .1)
+    (fewer 0 64 (a .r) (a .w) _ (y .result) refl (search needs) (search needs) (omega (arith, xor-lt 64 (c .before .args .r) (c .before .args .w) (search needs) (search needs))) (y .ensures .0), y .ensures .1)
 
 pub eight-spec : {M : Type 1} → statement M
 eight-spec = tie.close (tie.spec clocked-requires returns)

@@ -1,7 +1,6 @@
 -- `crc::two` meets its contract: the first 48 of the 64 clocks do nothing. Assumes nothing.
 use borrow.Author.Needs.{needs}
 use mathlib.Core.Path.{refl}
-use native.Mathlib.Omega.{arith}
 use Rattle.crc.proofs.Many.{fewer}
 use Rattle.crc.proofs.two.Statement.{statement}
 use Rattle.crc.proofs.two.Tie as tie
@@ -13,7 +12,7 @@ returns : tie.Need-returns
 returns c =
     let a = c .before .args in
     let y = c .clocked in
-    (fewer 48 16 (a .r) (a .w) _ (y .result) refl (omega arith) (search needs) (search needs) refl (y .ensures .0), y .ensures .1)
+    (fewer 48 16 (a .r) (a .w) _ (y .result) refl (search needs) (search needs) refl (y .ensures .0), y .ensures .1)
 
 pub two-spec : {M : Type 1} → statement M
 two-spec = tie.close (tie.spec clocked-requires returns)

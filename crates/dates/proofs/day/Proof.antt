@@ -1,7 +1,7 @@
 -- `day` meets its contract: only the stamp 0 is not its own day number. Assumes nothing.
 use mathlib.Core.Path.{ap, sym}
 use native.Mathlib.Omega.{arith}
-use Rattle.dates.specs.Stamps.{dayOf}
+use Rattle.dates.specs.Calendar.{dayOf}
 use Rattle.dates.proofs.Stamps.{day-itself}
 use Rattle.dates.proofs.day.Statement.{statement}
 use Rattle.dates.proofs.day.Tie as tie

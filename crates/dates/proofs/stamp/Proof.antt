@@ -1,7 +1,7 @@
 -- `stamp` meets its contract: two tests leave the dates that have a stamp, and the date's number gives it. Assumes nothing.
 use native.Mathlib.Omega.{arith}
 use borrow.Author.Needs.{needs}
-use Rattle.dates.proofs.Judged.{no-date, a-date, no-stamp, stamped}
+use Rattle.dates.proofs.Judged.{no-date, a-date, no-stamp, a-stamp}
 use Rattle.dates.proofs.stamp.Statement.{statement}
 use Rattle.dates.proofs.stamp.Tie as tie
 
@@ -30,7 +30,7 @@ returns-3 c =
     let m = c .before .before .before in
     let a = m .before .args in
     let d = a-date (a .year) (a .month) (a .day) (m .month-days .result) (m .month-days .ensures) _ _ _ (c .before .before .if1 .left) (omega arith) in
-    stamped (a .year) (a .month) (a .day) (c .before .day-number .result) (d .0) (c .before .day-number .ensures) _ _ (c .if2 .left) (omega arith)
+    a-stamp (a .year) (a .month) (a .day) (c .before .day-number .result) (d .0) (c .before .day-number .ensures) _ _ (c .if2 .left) (omega arith)
 
 pub stamp-spec : {M : Type 1} → statement M
 stamp-spec =

@@ -8,7 +8,7 @@ use native.Mathlib.Omega.{arith}
 use lib.Dec.{leb}
 use lib.ListN.{length, getD}
 use borrow.Author.Needs.{needs}
-use Rattle.rules.specs.Claim.{all}
+use Rattle.rules.specs.First.{all}
 use Rattle.fields.specs.declared.Span.{Span}
 use Rattle.fields.specs.Lists.{listOf, nth}
 use Rattle.fields.specs.Fields.{limitOf}

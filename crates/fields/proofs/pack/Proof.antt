@@ -4,10 +4,11 @@ use mathlib.Core.Bool.{true, false}
 use mathlib.Core.List.{List}
 use Prim.Native.Nat.{ℕ}
 use borrow.Author.Needs.{needs}
-use Rattle.rules.specs.Claim.{holds, first}
+use Rattle.rules.specs.First.{holds, first}
 use Rattle.fields.specs.declared.Layout.{Layout}
 use Rattle.fields.specs.Lists.{listOf}
-use Rattle.fields.specs.Fields.{stores, fit, packNumber, packIn}
+use Rattle.fields.specs.Fields.{stores, fit}
+use Rattle.fields.specs.Packed.{packNumber, packIn}
 use Rattle.fields.proofs.pack.Statement.{statement}
 use Rattle.fields.proofs.pack.Tie as tie
 

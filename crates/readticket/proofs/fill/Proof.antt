@@ -12,8 +12,8 @@ take-requires c κs = search needs
 enum-known-sound : tie.Need-enum-known-sound
 enum-known-sound c = search needs
 
-enum-known-n : tie.Need-enum-known-n
-enum-known-n c = search needs
+enum-known-number : tie.Need-enum-known-number
+enum-known-number c = search needs
 
 same-length : tie.Need-same-length
 same-length c = search needs
@@ -29,7 +29,7 @@ same-length-2 c = search needs
 returns-2 : tie.Need-returns-2
 returns-2 c =
     let e = c .before .before .before .before .before .take .ensures in
-    (fill-refused _ _ _ (judged-refused _ _ _ (sym (e .0) ∙ c .before .n .given .1)), e .1)
+    (fill-refused _ _ _ (judged-refused _ _ _ (sym (e .0) ∙ c .before .number .given .1)), e .1)
 
 pub fill-spec : {M : Type 1} → statement M
 fill-spec =
@@ -37,7 +37,7 @@ fill-spec =
     (tie.spec
     take-requires
     enum-known-sound
-    enum-known-n
+    enum-known-number
     same-length
     returns
     same-length-2

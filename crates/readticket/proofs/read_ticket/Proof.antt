@@ -4,7 +4,7 @@ use native.Mathlib.Omega.{arith}
 use Prim.Native.Nat.{_+_, _≤_}
 use lib.ListN.{length}
 use Rattle.ticket.specs.declared.Record.{Record}
-use Rattle.ticket.specs.Ticket.{endOf}
+use Rattle.ticket.specs.Kind.{endMinutes}
 use Rattle.image.specs.Shape.{sectorPlace}
 use Rattle.image.proofs.Places.{from-length}
 use Rattle.readticket.specs.declared.checks.Sound.{Sound}
@@ -70,7 +70,7 @@ returns c =
     let o = g .before .before in
     let k = taking o in
     let v = ap (λ (r : Record). r .values) (c .before .before .before .record-in .ensures) in
-    (read-taken _ _ _ k (rw (s .sector-at .ensures) at v ∙ start-fields _ _ _ k (g .shape-of .ensures)) (c .before .end .ensures ∙ ap (λ (f : Sound). endOf (f .day) (f .minutes)) (k .sound-is)), o .before .before .before .before .take .ensures .1)
+    (read-taken _ _ _ k (rw (s .sector-at .ensures) at v ∙ start-fields _ _ _ k (g .shape-of .ensures)) (c .before .end .ensures ∙ ap (λ (f : Sound). endMinutes (f .day) (f .minutes)) (k .sound-is)), o .before .before .before .before .take .ensures .1)
 
 same-length-2 : tie.Need-same-length-2
 same-length-2 c = search needs

@@ -1,5 +1,5 @@
 -- `readticket::rest` meets its contract: what `fill` answered tells the end, and what the buffer holds. Assumes nothing.
-use mathlib.Core.Path.{refl, sym, ap, _∙_}
+use mathlib.Core.Path.{refl, ap}
 use native.Mathlib.Omega.{arith}
 use lib.ListN.{length}
 use Rattle.readticket.proofs.TwoCalls.{Ending, fill-ends, fill-barred, rest-none, rest-nowhere, rest-from, after-length, rest-part}
@@ -8,17 +8,11 @@ use Rattle.readticket.proofs.rest.Statement.{statement}
 use Rattle.readticket.proofs.rest.Tie as tie
 
 -- the end that `fill` answered
-ending : (c : tie.After-d) → Ending (c .before .before .before .before .before .before .before .before .args .image .now) (c .before .before .before .before .before .before .before .before .args .entry) (length (c .before .before .before .before .before .before .before .before .args .buffer .now)) (c .d .given .0 .0)
-ending c = fill-ends _ _ _ (sym (c .before .before .before .before .fill .ensures .0) ∙ c .d .given .1)
+ending : (c : tie.Else1) → (let a = c .before .before .before .before .before .before .before .before .args in Ending (a .image .now) (a .entry) (length (a .buffer .now)) (c .before .before .before .before .fill .result .end))
+ending c = fill-ends _ _ _ (c .before .before .before .before .fill .ensures .0) (c .if1 .left)
 
 fill-requires : tie.Need-fill-requires
 fill-requires c κs = search needs
-
-enum-known-d : tie.Need-enum-known-d
-enum-known-d c = search needs
-
-enum-told : tie.Need-enum-told
-enum-told c = search needs
 
 sub-result : tie.Need-sub-result
 sub-result c = search needs
@@ -31,38 +25,36 @@ part-buffer-end c = search needs
 
 returns : tie.Need-returns
 returns c =
-    let s = fill-barred _ _ _ (sym (c .before .before .before .before .before .fill .ensures .0) ∙ c .before .enum-told .given .1) in
+    let s = fill-barred _ _ _ (c .before .before .before .before .before .fill .ensures .0) (c .before .if1 .taken) in
     rw (rest-none _ _ _ s, rest-nowhere _ _ _ s) (refl, (refl, refl))
 
 rest-requires : tie.Need-rest-requires
 rest-requires c κs = search needs
 
 sub-result-2 : tie.Need-sub-result-2
-sub-result-2 c = omega (arith, c .rest .ensures, ending (c .before .before) .least)
+sub-result-2 c = omega (arith, c .rest .ensures, ending (c .before) .least)
 
 part-buffer-start-2 : tie.Need-part-buffer-start-2
-part-buffer-start-2 c = omega (arith, c .rest .ensures, ending (c .before .before) .least)
+part-buffer-start-2 c = omega (arith, c .rest .ensures, ending (c .before) .least)
 
 part-buffer-end-2 : tie.Need-part-buffer-end-2
 part-buffer-end-2 c =
-    let k = ending (c .before .before) in
-    let a = c .before .before .before .before .before .before .before .before .before .before .args in
-    omega (arith, k .in-product, k .in-room, ap length (c .before .before .before .before .before .before .fill .ensures .1), after-length (a .image .now) (a .entry) (a .buffer .now) k)
+    let k = ending (c .before) in
+    let a = c .before .before .before .before .before .before .before .before .before .args in
+    omega (arith, k .in-product, k .in-room, ap length (c .before .before .before .before .before .fill .ensures .1), after-length (a .image .now) (a .entry) (a .buffer .now) k)
 
 returns-2 : tie.Need-returns-2
 returns-2 c =
-    let k = ending (c .before .before .before) in
-    let a = c .before .before .before .before .before .before .before .before .before .before .before .args in
+    let k = ending (c .before .before) in
+    let a = c .before .before .before .before .before .before .before .before .before .before .args in
     let e = c .before .rest .ensures in
-    (rw (c .before .before .before .before .before .before .before .fill .ensures .1) (rest-part (a .image .now) (a .entry) (a .buffer .now) k _ e), (refl, rw (e, rest-from _ _ _ k)))
+    (rw (c .before .before .before .before .before .before .fill .ensures .1) (rest-part (a .image .now) (a .entry) (a .buffer .now) k _ e), (refl, rw (e, rest-from _ _ _ k)))
 
 pub rest-spec : {M : Type 1} → statement M
 rest-spec =
     tie.close
     (tie.spec
     fill-requires
-    enum-known-d
-    enum-told
     sub-result
     part-buffer-start
     part-buffer-end

@@ -5,7 +5,7 @@ use native.Mathlib.Omega.{arith}
 use lib.Dec.{eqb}
 use lib.Bits.{bitAnd, bitOr}
 use lib.Pow.{shl-exact}
-use Rattle.rules.specs.Claim.{holds}
+use Rattle.rules.specs.First.{holds}
 use Rattle.shell.specs.Shell.{decimal}
 use Rattle.shell.proofs.DigitLaws.{word}
 use Rattle.shell.proofs.decimal.Statement.{statement}

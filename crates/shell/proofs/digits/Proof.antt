@@ -5,7 +5,8 @@ use native.Mathlib.Omega.{arith}
 use Prim.Native.Nat.{ℕ, _*_, _^_, _≤_, _<_}
 use borrow.Author.Needs.{needs}
 use borrow.Author.Tests.{not-true, not-false}
-use Rattle.rules.specs.Claim.{Means, holds, Fails, here, later, first}
+use Rattle.rules.specs.Claim.{Means, Fails, here, later}
+use Rattle.rules.specs.First.{holds, first}
 use Rattle.rules.proofs.ClaimLaws.{holds-means, false-means}
 use Rattle.rules.proofs.First.{first-of-kept, first-of-fails}
 use Rattle.shell.specs.Shell.{decimal, digitRules}

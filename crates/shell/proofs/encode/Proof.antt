@@ -56,13 +56,10 @@ returns c =
     let a = i .before .before .before .before .before .args in
     done (a .s .values) (a .out .now) (sym (i .before .judge .ensures) ∙ i .if1 .taken) (c .before .before .write-dataset .ensures)
 
-answered-requires : tie.Need-answered-requires
-answered-requires c κs = search needs
-
 returns-2 : tie.Need-returns-2
 returns-2 c =
-    let a = c .before .before .before .before .before .before .args in
-    refused (a .s .values) (a .out .now) (c .before .before .judge .ensures) (c .before .if1 .left) (c .answered .ensures)
+    let a = c .before .before .before .before .before .args in
+    refused (a .s .values) (a .out .now) (c .before .judge .ensures) (c .if1 .left)
 
 pub encode-spec : {M : Type 1} → statement M
 encode-spec =
@@ -78,5 +75,4 @@ encode-spec =
     write-dataset-requires
     same-length
     returns
-    answered-requires
     returns-2)

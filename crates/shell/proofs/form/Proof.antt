@@ -2,7 +2,8 @@
 use mathlib.Core.Path.{_≡_, sym}
 use native.Mathlib.Omega.{arith}
 use Prim.Native.Nat.{ℕ}
-use Rattle.rules.specs.Claim.{Fails, here, later, first}
+use Rattle.rules.specs.Claim.{Fails, here, later}
+use Rattle.rules.specs.First.{first}
 use Rattle.rules.proofs.First.{first-of-kept, first-of-fails}
 use Rattle.shell.specs.Shell.{formRules}
 use Rattle.shell.proofs.form.Statement.{statement}

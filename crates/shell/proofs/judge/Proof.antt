@@ -6,7 +6,7 @@ use borrow.Author.Needs.{needs}
 use borrow.Author.Tests.{not-true, not-false}
 use Rattle.fields.specs.Fields.{fit}
 use Rattle.fields.specs.Lists as lists
-use Rattle.rules.specs.Claim.{holds}
+use Rattle.rules.specs.First.{holds}
 use Rattle.shell.proofs.Rules.{Narrow, narrow, wide, at-form, at-digit, at-room, at-end}
 use Rattle.shell.proofs.judge.Statement.{statement}
 use Rattle.shell.proofs.judge.Tie as tie

@@ -34,13 +34,10 @@ returns c =
     let e = sym (i .before .judge .ensures) ∙ i .if1 .taken in
     done (a .s) (a .elements .now) (a .out .now) e (c .before .before .before .before .psi .ensures .0) (c .before .before .pack-all .ensures)
 
-answered-requires : tie.Need-answered-requires
-answered-requires c κs = search needs
-
 returns-2 : tie.Need-returns-2
 returns-2 c =
-    let a = c .before .before .before .before .before .args in
-    refused (a .s) (a .elements .now) (a .out .now) (c .before .before .judge .ensures) (c .before .if1 .left) (c .answered .ensures)
+    let a = c .before .before .before .before .args in
+    refused (a .s) (a .elements .now) (a .out .now) (c .before .judge .ensures) (c .if1 .left)
 
 pub encode-table-spec : {M : Type 1} → statement M
 encode-table-spec =
@@ -51,5 +48,4 @@ encode-table-spec =
     pack-all-requires
     same-length
     returns
-    answered-requires
     returns-2)

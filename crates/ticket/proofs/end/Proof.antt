@@ -1,7 +1,7 @@
 -- `ticket::end` meets its contract: a day is at most the stamp or 16,384, so that nothing wraps. Assumes nothing.
 use Prim.Native.Nat.{ℕ, zero, suc, _^_, _<_}
 use native.Mathlib.Omega.{arith}
-use Rattle.dates.specs.Stamps.{dayOf}
+use Rattle.dates.specs.Calendar.{dayOf}
 use borrow.Author.Needs.{needs}
 use Rattle.ticket.proofs.end.Statement.{statement}
 use Rattle.ticket.proofs.end.Tie as tie

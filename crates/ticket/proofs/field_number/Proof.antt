@@ -2,7 +2,7 @@
 use mathlib.Core.Path.{_∙_, sym}
 use borrow.Author.Tests.{le-leb, lt-leb, not-true, not-false}
 use borrow.Author.Needs.{needs}
-use Rattle.rules.specs.Claim.{first}
+use Rattle.rules.specs.First.{first}
 use Rattle.rules.proofs.ClaimLaws.{holds-means}
 use Rattle.ticket.specs.Kind.{fieldRule}
 use Rattle.ticket.proofs.field_number.Statement.{statement}

@@ -9,10 +9,10 @@ lowest-bad-requires : tie.Need-lowest-bad-requires
 lowest-bad-requires c κs = search needs
 
 returns : tie.Need-returns
-returns c = rw (record-number (c .before .before .args .t .values) (search needs), lt-ltb _ _ (rw (c .before .lowest-bad .ensures) at (c .if1 .taken)))
+returns c = rw (record-number (c .before .before .before .args .values .now) (c .before .before .before .pre), lt-ltb _ _ (rw (c .before .lowest-bad .ensures) at (c .if1 .taken)))
 
 returns-2 : tie.Need-returns-2
-returns-2 c = rw (record-number (c .before .before .args .t .values) (search needs), le-ltb _ _ (rw (c .before .lowest-bad .ensures) at (c .if1 .left)))
+returns-2 c = rw (record-number (c .before .before .before .args .values .now) (c .before .before .before .pre), le-ltb _ _ (rw (c .before .lowest-bad .ensures) at (c .if1 .left)))
 
 pub record-number-spec : {M : Type 1} → statement M
 record-number-spec = tie.close (tie.spec lowest-bad-requires returns returns-2)

@@ -1,5 +1,5 @@
 -- `touched::compare_number` meets its contract: the tests are the rules, in their order. Assumes nothing.
-use Rattle.rules.specs.Claim.{first}
+use Rattle.rules.specs.First.{first}
 use borrow.Author.Tests.{eq-eqb, ne-eqb}
 use Rattle.touched.proofs.compare_number.Statement.{statement}
 use Rattle.touched.proofs.compare_number.Tie as tie

@@ -3,7 +3,7 @@ use mathlib.Core.Path.{sym, ap, _∙_}
 use native.Mathlib.Omega.{arith}
 use Prim.Native.Nat.{_-_}
 use borrow.Author.Needs.{needs}
-use Rattle.steps.specs.Touched.{flagOf}
+use Rattle.steps.specs.Flags.{flagOf}
 use Rattle.touched.proofs.Pairs.{Flagged, flags-start, flags-more, flags-end}
 use Rattle.touched.proofs.fill_flags.Statement.{statement}
 use Rattle.touched.proofs.fill_flags.Tie as tie

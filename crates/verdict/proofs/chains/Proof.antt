@@ -1,35 +1,35 @@
 -- `verdict::chains` meets its contract: before entry k the pass knows what `Pass` says, and holds what it found of the entry asked for.
 -- Assumes nothing.
-use mathlib.Core.Path.{_≡_, sym, _∙_}
+use mathlib.Core.Path.{_≡_, sym, ap, _∙_}
 use mathlib.Core.Logic.{⊎-elim}
 use mathlib.Core.List.{List}
-use Prim.Native.Nat.{ℕ, _≤_, _+_, _-_, _*_, _/_, _%_}
+use Prim.Native.Nat.{ℕ, _≤_, _+_, _-_, _*_, _/_, _%_, _<_}
 use native.Mathlib.Omega.{arith}
 use borrow.Author.Needs.{needs}
-use lib.ListN.{set}
+use lib.Dec.{eqb}
+use lib.ListN.{getD, set}
 use Rattle.rules.specs.Lowest.{lowest}
-use Rattle.chains.specs.Packed.{leftTold}
+use Rattle.chains.specs.Packed.{lastTold, leftTold}
 use Rattle.chains.proofs.Pass.{pass-start, allowed-few}
-use Rattle.image.specs.Image.{S, e#, isProduct, element}
-use Rattle.image.specs.Rules.{brokenAt}
+use Rattle.image.specs.Image.{S, e#, element}
+use Rattle.image.specs.Verdict.{isProduct, brokenAt}
 use Rattle.image.specs.Found.{lastAt, countAt}
 use Rattle.image.proofs.Entries.{Pass, Passes, no-product, pass-skip, pass-stop, pass-take, pass-end, unsound-lowest}
 use Rattle.image.proofs.Founds.{outside}
 use Rattle.verdict.proofs.Parts.{says-unsound, says-all}
-use Rattle.verdict.proofs.Kept.{Holds, holds-start, holds-skip, holds-take, holds-end}
+use Rattle.verdict.proofs.Kept.{Holds, holds-start, holds-skip, holds-take, holds-end, pick-lt}
 use Rattle.verdict.proofs.chains.Statement.{statement}
 use Rattle.verdict.proofs.chains.Tie as tie
 
--- 256 for each sector of entry j's chain
-abbrev taken-at : List ℕ → ℕ → ℕ
-taken-at c j = 256 * countAt c j
+-- the last sector of entry j's chain, and 256 for each of its sectors
+abbrev told-at : List ℕ → ℕ → ℕ
+told-at c j = lastAt c j + 256 * countAt c j
 
 abbrev Inv-loop : tie.InvT-loop
-Inv-loop image entry g seen₀ left₀ last₀ taken₀ k₀ seen left last taken k =
-    (k ≤ g .entries + 1) × Pass image k (left / 256) seen × Holds (lastAt image) entry k last × Holds (taken-at image) entry k taken × (left % 256 ≡ 0)
+Inv-loop image entry g seen₀ left₀ told₀ k₀ seen left told k = (k ≤ g .entries + 1) × Pass image k (left / 256) seen × Holds (told-at image) entry k told × (left % 256 ≡ 0) × (told < 131072)
 
 abbrev μ-loop : tie.MeasureT-loop
-μ-loop image entry g seen₀ left₀ last₀ taken₀ k₀ seen left last taken k = g .entries + 1 - k
+μ-loop image entry g seen₀ left₀ told₀ k₀ seen left told k = g .entries + 1 - k
 
 shape-of-requires : tie.Need-shape-of-requires Inv-loop μ-loop
 shape-of-requires c κs = c .before .pre
@@ -49,7 +49,7 @@ loop-holds c =
     let m = g .before .before .args .image .now in
     let n = no-product m 0 (search needs) (outside m 0 (λ a b. omega arith)) in
     let q : 256 * (S m - 3) / 256 ≡ S m - 3 = omega arith in
-    (omega arith, rw (g .shape-of .ensures .sectors-is, q) (pass-start (isProduct m) (element m) (S m)), holds-start (n .1), holds-start (rw (n .2) (omega arith)), omega arith)
+    (omega arith, rw (g .shape-of .ensures .sectors-is, q) (pass-start (isProduct m) (element m) (S m)), holds-start (rw (n .1, n .2) (omega arith)), omega arith, omega arith)
 
 present-requires : tie.Need-present-requires Inv-loop μ-loop
 present-requires c κs =
@@ -61,54 +61,75 @@ walk-of-requires c κs =
     let g = c .before .before .before .before .before .before in
     let l = c .before .before .before .before .loop in
     let m = g .before .before .args .image .now in
-    (g .shape-of .ensures, (l .inv .1 .allowed .low, omega arith, omega (arith, allowed-few (isProduct m) (element m) (S m) (l .inv .1 .allowed), g .shape-of .ensures .in-bounds .s-top, l .inv .4), l .inv .4))
-
-last-requires : tie.Need-last-requires Inv-loop μ-loop
-last-requires c κs = search needs
-
-array-read-if3 : tie.Need-array-read-if3 Inv-loop μ-loop
-array-read-if3 c = omega (arith, c .last .ensures)
+    (g .shape-of .ensures, (l .inv .1 .allowed .low, omega arith, omega (arith, allowed-few (isProduct m) (element m) (S m) (l .inv .1 .allowed), g .shape-of .ensures .in-bounds .s-top, l .inv .3), l .inv .3))
 
 unsound-requires : tie.Need-unsound-requires Inv-loop μ-loop
-unsound-requires c κs = c .before .before .before .before .before .before .before .before .before .shape-of .ensures
+unsound-requires c κs =
+    let b = c .before .before .before .before .before .before .before .before .shape-of .ensures in
+    (b .in-bounds, omega (arith, b .entries-is, b .in-bounds .e-top, b .in-bounds .s-top))
 
 returns : tie.Need-returns Inv-loop μ-loop
 returns c =
     let t = c .before .before in
-    let g = t .before .before .before .before .before .before .before .before in
-    let l = t .before .before .before .before .before .before .loop in
+    let g = t .before .before .before .before .before .before .before in
+    let l = t .before .before .before .before .before .loop in
     let m = g .before .before .args .image .now in
-    let u = pass-stop m (search needs) (search needs) (l .inv .1) (sym (t .before .before .before .present .ensures) ∙ t .before .before .if2 .taken) (t .before .walk-of .ensures) (rw (t .last .ensures) at (c .before .if3 .taken)) in
+    let u = pass-stop m (search needs) (search needs) (l .inv .1) (sym (t .before .before .present .ensures) ∙ t .before .if2 .taken) (t .walk-of .ensures) (λ h. l .inv .1 .ends .nought (sym (ap (λ (x : ℕ). getD (l .seen) (lastTold x) 0) (c .before .if3 .taken)) ∙ h)) in
     c .unsound .ensures ∙ says-unsound (lowest (e# m) (brokenAt m)) _ _ (l .inv .1 .allowed .low) (unsound-lowest m u (l .inv .1 .allowed .low) (omega arith))
 
+last-requires : tie.Need-last-requires Inv-loop μ-loop
+last-requires c κs = search needs
+
+array-read-if4 : tie.Need-array-read-if4 Inv-loop μ-loop
+array-read-if4 c = omega (arith, c .last .ensures)
+
+unsound-requires-2 : tie.Need-unsound-requires-2 Inv-loop μ-loop
+unsound-requires-2 c κs =
+    let b = c .before .before .before .before .before .before .before .before .before .before .shape-of .ensures in
+    (b .in-bounds, omega (arith, b .entries-is, b .in-bounds .e-top, b .in-bounds .s-top))
+
+returns-2 : tie.Need-returns-2 Inv-loop μ-loop
+returns-2 c =
+    let t = c .before .before in
+    let g = t .before .before .before .before .before .before .before .before .before in
+    let l = t .before .before .before .before .before .before .before .loop in
+    let m = g .before .before .args .image .now in
+    let u = pass-stop m (search needs) (search needs) (l .inv .1) (sym (t .before .before .before .before .present .ensures) ∙ t .before .before .before .if2 .taken) (t .before .before .walk-of .ensures) (rw (t .last .ensures) at (c .before .if4 .taken)) in
+    c .unsound2 .ensures ∙ says-unsound (lowest (e# m) (brokenAt m)) _ _ (l .inv .1 .allowed .low) (unsound-lowest m u (l .inv .1 .allowed .low) (omega arith))
+
 -- what the walk's number tells of a chain that ends where no other does
-known : (c : tie.Else3 Inv-loop μ-loop) →
-    (let w = c .before .before in let m = w .before .before .before .before .before .before .before .before .before .args .image .now in let l = w .before .before .before .before .before .loop in
+known : (c : tie.Else4 Inv-loop μ-loop) →
+    (let w = c .before .before .before in let m = w .before .before .before .before .before .before .before .before .before .args .image .now in let l = w .before .before .before .before .before .loop in
     Passes m (l .k) (l .left / 256) (w .walk-of .result) × Pass m (l .k + 1) (leftTold (w .walk-of .result)) (set (l .seen) (c .before .last .result) 1))
 known c =
-    let w = c .before .before in
+    let w = c .before .before .before in
     let g = w .before .before .before .before .before .before .before in
     let l = w .before .before .before .before .before .loop in
     let e = c .before .last .ensures in
-    rw e (pass-take (g .before .before .args .image .now) (search needs) (search needs) (l .inv .1) (sym (w .before .before .present .ensures) ∙ w .before .if2 .taken) (w .walk-of .ensures) (rw e at (c .if3 .left)))
+    rw e (pass-take (g .before .before .args .image .now) (search needs) (search needs) (l .inv .1) (sym (w .before .before .present .ensures) ∙ w .before .if2 .taken) (w .walk-of .ensures) (rw e at (c .if4 .left)))
 
 array-write-seen-2 : tie.Need-array-write-seen-2 Inv-loop μ-loop
 array-write-seen-2 c = omega (arith, c .before .last .ensures)
 
-chosen-requires : tie.Need-chosen-requires Inv-loop μ-loop
-chosen-requires c = search needs
-
 left-requires : tie.Need-left-requires Inv-loop μ-loop
-left-requires c κs = known (c .before) .0 .told
+left-requires c κs = known c .0 .told
 
 sub-chosen : tie.Need-sub-chosen Inv-loop μ-loop
 sub-chosen c =
-    let n = known (c .before .before) .0 in
+    let n = known (c .before) .0 in
     let l = c .before .before .before .before .before .before .before .before .before .loop in
-    omega (arith, c .left .ensures, n .fewer, l .inv .4)
+    omega (arith, c .left .ensures, n .fewer, l .inv .3)
 
-chosen-requires-2 : tie.Need-chosen-requires-2 Inv-loop μ-loop
-chosen-requires-2 c κs = search needs
+add-chosen : tie.Need-add-chosen Inv-loop μ-loop
+add-chosen c =
+    let n = known (c .before) .0 in
+    let l = c .before .before .before .before .before .before .before .before .before .loop in
+    let g = c .before .before .before .before .before .before .before .before .before .before .before in
+    let m = g .before .before .args .image .now in
+    omega (arith, c .left .ensures, n .fewer, l .inv .3, c .before .before .last .ensures, allowed-few (isProduct m) (element m) (S m) (l .inv .1 .allowed), g .shape-of .ensures .in-bounds .s-top)
+
+chosen-requires : tie.Need-chosen-requires Inv-loop μ-loop
+chosen-requires c = search needs
 
 add-k : tie.Need-add-k Inv-loop μ-loop
 add-k c = search needs
@@ -123,28 +144,38 @@ loop-again c =
     let m = g .before .before .args .image .now in
     let e = g .before .before .args .entry in
     let x = c .before .present .ensures in
+    let few = allowed-few (isProduct m) (element m) (S m) (l .inv .1 .allowed) in
     let r =
-    ⊎-elim {C = Pass m (l .k + 1) (c .if2 .left / 256) (c .if2 .seen) × Holds (lastAt m) e (l .k + 1) (c .if2 .last) × Holds (taken-at m) e (l .k + 1) (c .if2 .taken) × (c .if2 .left % 256 ≡ 0)}
+    ⊎-elim {C = Pass m (l .k + 1) (c .if2 .left / 256) (c .if2 .seen) × Holds (told-at m) e (l .k + 1) (c .if2 .told) × (c .if2 .left % 256 ≡ 0) × (c .if2 .told < 131072)}
     (λ w.
-    let t : tie.Else3 Inv-loop μ-loop = record { before = record { before = record { before = record { before = c .before; if2 = w .0 }; walk-of = w .1 }; last = w .2 }; if3 = w .3 } in
+    let t : tie.Else4 Inv-loop μ-loop = record { before = record { before = record { before = record { before = record { before = c .before; if2 = w .0 }; walk-of = w .1 }; if3 = w .2 }; last = w .3 }; if4 = w .4 } in
     let n = known t in
-    let q : c .if2 .left / 256 ≡ leftTold (w .1 .result) = omega (arith, w .8, w .5 .ensures) in
-    (rw (w .7, q) (n .1), rw (w .9, w .4 .ensures) (holds-take (l .inv .2) (w .2 .ensures ∙ n .0 .last-is)), rw (w .10, w .6 .ensures) (holds-take (l .inv .3) (omega (arith, w .5 .ensures, n .0 .count-is, n .0 .fewer, l .inv .4))), omega (arith, w .8, w .5 .ensures)))
+    let q : c .if2 .left / 256 ≡ leftTold (w .1 .result) = omega (arith, w .8, w .5 .ensures) in (
+      rw (w .7, q) (n .1),
+      rw (w .9, w .6 .ensures) (holds-take (l .inv .2) (omega (arith, w .3 .ensures, n .0 .last-is, w .5 .ensures, n .0 .count-is, n .0 .fewer, l .inv .3))),
+      omega (arith, w .8, w .5 .ensures),
+      rw (w .9, w .6 .ensures) (pick-lt (eqb (l .k) e) (w .3 .result + (l .left - w .5 .result)) (l .told) (omega (arith, w .3 .ensures, few, g .shape-of .ensures .in-bounds .s-top, l .inv .3)) (l .inv .4)),
+    ))
     (λ w.
     let p = sym x ∙ w .0 .left in
     let n = no-product m (l .k) (search needs) p in
-    (rw (w .1, w .2) (pass-skip m (search needs) (search needs) (l .inv .1) p), rw (w .3) (holds-skip (l .inv .2) (n .1)), rw (w .4) (holds-skip (l .inv .3) (rw (n .2) (omega arith))), rw (w .2) (l .inv .4)))
+    (rw (w .1, w .2) (pass-skip m (search needs) (search needs) (l .inv .1) p), rw (w .3) (holds-skip (l .inv .2) (rw (n .1, n .2) (omega arith))), rw (w .2) (l .inv .3), rw (w .3) (l .inv .4)))
     (c .if2 .came) in
     (omega arith, r .0, r .1, r .2, r .3)
 
-returns-2 : tie.Need-returns-2 Inv-loop μ-loop
-returns-2 c =
+mul-result : tie.Need-mul-result Inv-loop μ-loop
+mul-result c = omega (arith, c .before .before .loop .inv .4)
+
+returns-3 : tie.Need-returns-3 Inv-loop μ-loop
+returns-3 c =
     let g = c .before .before .before .before in
     let l = c .before .before .loop in
     let m = g .before .before .args .image .now in
+    let j = g .before .before .args .entry in
     let e = pass-end m (search needs) (search needs) (l .inv .1) (omega arith) in
-    let n : l .k ≤ g .before .before .args .entry → _ = λ h. no-product m (g .before .before .args .entry) (search needs) (outside m (g .before .before .args .entry) (λ a b. omega arith)) in
-    says-all (e .0) (e .1) (holds-end (l .inv .2) (λ h. n h .1)) (omega (arith, holds-end (l .inv .3) (λ h. rw (n h .2) (omega arith))))
+    let n : l .k ≤ j → _ = λ h. no-product m j (search needs) (outside m j (λ a b. omega arith)) in
+    let t = holds-end (l .inv .2) (λ h. rw (n h .1, n h .2) (omega arith)) in
+    says-all (lastAt m j) (countAt m j) (e .0) (e .1) t
 
 pub chains-spec : {M : Type 1} → statement M
 chains-spec =
@@ -159,16 +190,19 @@ chains-spec =
     loop-holds
     present-requires
     walk-of-requires
-    last-requires
-    array-read-if3
     unsound-requires
     returns
+    last-requires
+    array-read-if4
+    unsound-requires-2
+    returns-2
     array-write-seen-2
-    chosen-requires
     left-requires
     sub-chosen
-    chosen-requires-2
+    add-chosen
+    chosen-requires
     add-k
     loop-less
     loop-again
-    returns-2)
+    mul-result
+    returns-3)

@@ -8,14 +8,14 @@ use native.Mathlib.Omega.{arith}
 use borrow.Author.Count.{below-more}
 use borrow.Author.Needs.{needs}
 use Rattle.rules.proofs.LowestLaws.{lowest-here, lowest-none}
-use Rattle.chains.specs.Packed.{packed}
+use Rattle.chains.specs.Packed.{elementIn}
 use Rattle.chains.specs.Owners.{stop, follow}
 use Rattle.chains.specs.declared.Table.{Table}
 use Rattle.chains.proofs.Owners.{owners-none, owners-skip, owners-few}
 use Rattle.image.specs.Image.{S, e#, element}
 use Rattle.image.specs.Shape.{Shaped, tableOf}
 use Rattle.image.specs.declared.Shape.{Shape}
-use Rattle.image.specs.Rules.{brokenAt}
+use Rattle.image.specs.Verdict.{brokenAt}
 use Rattle.image.proofs.Shapes.{inside, follow-is}
 use Rattle.image.proofs.Entries.{Owners, no-product, follow-broken, follow-sound}
 use Rattle.verdict.proofs.first_broken.Statement.{statement}
@@ -53,7 +53,7 @@ follow-requires c κs =
     rw (c .before .table-of .ensures) (inside s, (record { low = l .inv .0; high = omega (arith, s .in-bounds .e-top) }, (omega (arith, owners-few (l .inv .2), s .in-bounds .s-top), l .inv .2 .room)))
 
 -- the walk over the shape's table is that over the image's elements
-of-image : {m owner after : List ℕ} {g : Shape} {t : Table} {k n r : ℕ} → Shaped m g → Owners m k n owner → t ≡ tableOf g → stop r after ≡ follow (packed m (t .first) (t .psi)) (t .sectors) k n owner k → stop r after ≡ follow (element m) (S m) k n owner k
+of-image : {m owner after : List ℕ} {g : Shape} {t : Table} {k n r : ℕ} → Shaped m g → Owners m k n owner → t ≡ tableOf g → stop r after ≡ follow (elementIn m (t .first) (t .psi)) (t .sectors) k n owner k → stop r after ≡ follow (element m) (S m) k n owner k
 of-image {owner = owner} {k = k} {n = n} s w e q = (rw e at q) ∙ follow-is s k n owner
 
 returns : tie.Need-returns Inv-loop μ-loop

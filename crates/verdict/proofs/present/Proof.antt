@@ -7,7 +7,8 @@ use native.Mathlib.Omega.{arith}
 use lib.Dec.{eqb}
 use borrow.Author.Tests.{le-leb}
 use Rattle.bits.specs.Bits.{field}
-use Rattle.image.specs.Image.{e#, isProduct}
+use Rattle.image.specs.Image.{e#}
+use Rattle.image.specs.Verdict.{isProduct}
 use Rattle.image.specs.Shape.{Shaped, entryPlace}
 use Rattle.image.specs.declared.Shape.{Shape}
 use Rattle.image.proofs.Shapes.{entry-is}

@@ -51,14 +51,14 @@ same-length-2 c = search needs
 
 returns-2 : tie.Need-returns-2
 returns-2 c =
-    let s = seen (c .before .before .before .before .before) in
-    late-answer _ _ (s .present) _ (record-rules _ _ _) _ _ (c .before .before .before .write-number .ensures) (c .before .before .if1 .left) (c .before .record-number .ensures) (c .if2 .taken)
+    let s = seen (c .before .before .before .before .before .before) in
+    late-answer _ _ (s .present) _ (record-rules _ _ _) _ _ (c .before .before .before .before .write-number .ensures) (c .before .before .before .if1 .left) (c .before .record-number .ensures) (c .if2 .taken)
 
 store-record-requires : tie.Need-store-record-requires
 store-record-requires c κs =
-    let s = seen (c .before .before .before .before .before .before) in
+    let s = seen (c .before .before .before .before .before .before .before .before) in
     let e = entry-in (s .shape) (s .present) in
-    (s .shape, ((omega (arith, e), omega (arith, e)), lowest-kept _ (sym (c .before .before .record-number .ensures) ∙ c .before .if2 .left)))
+    (s .shape, ((omega (arith, e), omega (arith, e)), (search needs, lowest-kept _ (sym (c .before .before .before .record-number .ensures) ∙ c .before .before .if2 .left))))
 
 enum-known-n : tie.Need-enum-known-n
 enum-known-n c = search needs
@@ -68,8 +68,8 @@ same-length-3 c = search needs
 
 returns-3 : tie.Need-returns-3
 returns-3 c =
-    let s = seen (c .before .before .before .before .before .before .before .before .before) in
-    let t = write-taken _ _ (s .present) _ (record-rules _ _ _) _ _ (c .before .before .before .before .before .before .before .write-number .ensures) (c .before .before .before .before .before .before .if1 .left) (c .before .before .before .before .before .record-number .ensures) (c .before .before .before .before .if2 .left) in
+    let s = seen (c .before .before .before .before .before .before .before .before .before .before .before) in
+    let t = write-taken _ _ (s .present) _ (record-rules _ _ _) _ _ (c .before .before .before .before .before .before .before .before .before .write-number .ensures) (c .before .before .before .before .before .before .before .before .if1 .left) (c .before .before .before .before .before .before .record-number .ensures) (c .before .before .before .before .before .if2 .left) in
     (taken-answer _ _ t, c .before .before .store-record .ensures ∙ record-stored _ _ _ t)
 
 same-length-4 : tie.Need-same-length-4

@@ -1,18 +1,24 @@
--- `encodes::shell_of` is safe and ends: each turn leaves one value fewer.
+-- `encodes::shell_of` meets its contract: each turn stores one number more.
 -- Assumes nothing.
-use borrow.Author.Needs.{needs}
+use mathlib.Core.Path.{_≡_, refl, sym, _∙_}
+use mathlib.Core.List.{_++_}
 use Prim.Native.Nat.{_-_, _≤_}
+use native.Mathlib.Omega.{arith}
+use lib.ListN.{replicate}
+use Rattle.console.specs.Commands.{numbersFrom}
+use Rattle.console.proofs.Numbers.{begun, more, all}
+use borrow.Author.Needs.{needs}
 use Rattle.console.proofs.encodes.shell_of.Statement.{statement}
 use Rattle.console.proofs.encodes.shell_of.Tie as tie
 
 abbrev Inv-loop : tie.InvT-loop
-Inv-loop list v₀ i₀ v i = i ≤ 16
+Inv-loop list v₀ i₀ v i = (i ≤ 16) × (v ≡ numbersFrom i 1 list ++ replicate (16 - i) 0)
 
 abbrev μ-loop : tie.MeasureT-loop
 μ-loop list v₀ i₀ v i = 16 - i
 
 loop-holds : tie.Need-loop-holds Inv-loop μ-loop
-loop-holds c = search needs
+loop-holds c = (omega arith, begun 16 1 (c .args .list .now))
 
 add-v : tie.Need-add-v Inv-loop μ-loop
 add-v c = search needs
@@ -36,10 +42,14 @@ loop-less : tie.Need-loop-less Inv-loop μ-loop
 loop-less c = search needs
 
 loop-again : tie.Need-loop-again Inv-loop μ-loop
-loop-again c = search needs
+loop-again c =
+    let l = c .before .before .loop in
+    (omega arith, more 16 1 (l .i) (c .before .before .before .args .list .now) (l .v) (omega arith) (l .inv .1))
 
 returns : tie.Need-returns Inv-loop μ-loop
-returns c = search needs
+returns c =
+    let l = c .before .loop in
+    all 16 1 (l .i) (c .before .before .args .list .now) (l .v) (omega arith) (l .inv .1)
 
 pub shell-of-spec : {M : Type 1} → statement M
 shell-of-spec =

@@ -1,18 +1,24 @@
--- `values::record` is safe and ends: each turn leaves one value fewer.
+-- `values::record` meets its contract: each turn stores one number more.
 -- Assumes nothing.
-use borrow.Author.Needs.{needs}
+use mathlib.Core.Path.{_≡_, refl, sym, _∙_}
+use mathlib.Core.List.{_++_}
 use Prim.Native.Nat.{_-_, _≤_}
+use native.Mathlib.Omega.{arith}
+use lib.ListN.{replicate}
+use Rattle.console.specs.Commands.{numbersFrom}
+use Rattle.console.proofs.Numbers.{begun, more, all}
+use borrow.Author.Needs.{needs}
 use Rattle.console.proofs.values.record.Statement.{statement}
 use Rattle.console.proofs.values.record.Tie as tie
 
 abbrev Inv-loop : tie.InvT-loop
-Inv-loop list from v₀ i₀ v i = i ≤ 22
+Inv-loop list from v₀ i₀ v i = (i ≤ 22) × (v ≡ numbersFrom i from list ++ replicate (22 - i) 0)
 
 abbrev μ-loop : tie.MeasureT-loop
 μ-loop list from v₀ i₀ v i = 22 - i
 
 loop-holds : tie.Need-loop-holds Inv-loop μ-loop
-loop-holds c = search needs
+loop-holds c = (omega arith, begun 22 (c .args .from) (c .args .list .now))
 
 add-v : tie.Need-add-v Inv-loop μ-loop
 add-v c = search needs
@@ -36,10 +42,14 @@ loop-less : tie.Need-loop-less Inv-loop μ-loop
 loop-less c = search needs
 
 loop-again : tie.Need-loop-again Inv-loop μ-loop
-loop-again c = search needs
+loop-again c =
+    let l = c .before .before .loop in
+    (omega arith, more 22 (c .before .before .before .args .from) (l .i) (c .before .before .before .args .list .now) (l .v) (omega arith) (l .inv .1))
 
 returns : tie.Need-returns Inv-loop μ-loop
-returns c = search needs
+returns c =
+    let l = c .before .loop in
+    all 22 (c .before .before .args .from) (l .i) (c .before .before .args .list .now) (l .v) (omega arith) (l .inv .1)
 
 pub record-spec : {M : Type 1} → statement M
 record-spec =

@@ -2,10 +2,10 @@
 use mathlib.Core.Path.{sym, _∙_}
 use mathlib.Core.List.{[]}
 use native.Mathlib.Omega.{arith}
-use Rattle.rules.specs.Claim.{first}
+use Rattle.rules.specs.First.{first}
 use Rattle.image.proofs.Founds.{Finds, finds}
 use Rattle.reads.specs.Entry.{readChain}
-use Rattle.reads.proofs.Asked.{asked-there}
+use Rattle.image.proofs.Asked.{asked-there}
 use Rattle.reads.proofs.Given.{value-refused, values-refused}
 use Rattle.reads.proofs.Known.{found-not, there-few}
 use borrow.Author.Needs.{needs}

@@ -4,12 +4,12 @@ use mathlib.Core.List.{[]}
 use native.Mathlib.Omega.{arith}
 use Prim.Native.Nat.{_+_, _≤_}
 use lib.ListN.{length}
-use Rattle.rules.specs.Claim.{first}
+use Rattle.rules.specs.First.{first}
 use Rattle.image.proofs.Founds.{Finds, finds}
 use Rattle.image.proofs.Shapes.{entry-is}
 use Rattle.image.proofs.Places.{from-is, from-length, entry-in}
 use Rattle.reads.specs.Entry.{readEntry}
-use Rattle.reads.proofs.Asked.{asked-there}
+use Rattle.image.proofs.Asked.{asked-there}
 use Rattle.reads.proofs.Given.{values-refused}
 use Rattle.reads.proofs.Known.{found-not}
 use borrow.Author.Needs.{needs}

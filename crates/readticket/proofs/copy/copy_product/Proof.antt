@@ -7,43 +7,39 @@ use lib.ListN.{length, getD}
 use borrow.Rule.Slice.PartMut.{putMid}
 use Rattle.chains.specs.Chain.{Sector}
 use Rattle.image.specs.Image.{S, element, sectors}
-use Rattle.image.proofs.Places.{element-asks, element-read}
 use Rattle.reads.proofs.Known.{there-start, there-at, there-next, there-some}
 use Rattle.readticket.proofs.Sectors.{partly, partly-none, partly-length, partly-more, partly-all, Turn, turn, parts-same}
 use Rattle.readticket.proofs.copy.copy_product.Statement.{statement}
 use Rattle.readticket.proofs.copy.copy_product.Tie as tie
 
 abbrev Inv-loop : tie.InvT-loop
-Inv-loop image g j count buffer₀ t size i₀ k₀ buffer i k = (k < count) × (buffer ≡ partly image g j buffer₀ k) × (i ≡ getD (sectors image j) k 0)
+Inv-loop image g j count buffer₀ size i₀ k₀ buffer i k = (k < count) × (buffer ≡ partly image g j buffer₀ k) × (i ≡ getD (sectors image j) k 0)
 
 abbrev μ-loop : tie.MeasureT-loop
-μ-loop image g j count buffer₀ t size i₀ k₀ buffer i k = count - k
+μ-loop image g j count buffer₀ size i₀ k₀ buffer i k = count - k
 
 -- the buffer is as long as it was
-long : (c : tie.At-loop Inv-loop μ-loop) → length (c .loop .buffer) ≡ length (c .before .before .before .before .args .buffer .now)
+long : (c : tie.At-loop Inv-loop μ-loop) → length (c .loop .buffer) ≡ length (c .before .before .before .args .buffer .now)
 long c =
-    let o = c .before .before .before .before in
+    let o = c .before .before .before in
     let p = o .pre in
     ap length (c .loop .inv .1)
     ∙ partly-length (p .0) (p .1 .0) _ (c .loop .k) (omega arith) (omega (arith, mul-le-mul-right {n = o .args .count} (o .args .g .size) (c .loop .inv .0)))
 
 -- i is a sector of the chain
-here : (c : tie.At-loop Inv-loop μ-loop) → Sector (S (c .before .before .before .before .args .image .now)) (c .loop .i)
+here : (c : tie.At-loop Inv-loop μ-loop) → Sector (S (c .before .before .before .args .image .now)) (c .loop .i)
 here c =
-    let p = c .before .before .before .before .pre in
+    let p = c .before .before .before .pre in
     let l = c .loop in
     rw (l .inv .2) (there-at (p .1 .0) (l .k) (omega arith))
 
 -- the places of this turn
-place : (c : tie.At-loop Inv-loop μ-loop) → Turn (c .before .before .before .before .args .image .now) (c .before .before .before .before .args .g) (c .before .before .before .before .args .count) (c .loop .k) (c .loop .i)
-place c = let p = c .before .before .before .before .pre in turn (p .0) (p .1 .0) (p .1 .1 .0) (c .loop .inv .0) (here c)
-
-table-of-requires : tie.Need-table-of-requires Inv-loop μ-loop
-table-of-requires c κs = let s = c .before .before .pre .0 in let b = s .in-bounds in omega (arith, s .table-is)
+place : (c : tie.At-loop Inv-loop μ-loop) → Turn (c .before .before .before .args .image .now) (c .before .before .before .args .g) (c .before .before .before .args .count) (c .loop .k) (c .loop .i)
+place c = let p = c .before .before .before .pre in turn (p .0) (p .1 .0) (p .1 .1 .0) (c .loop .inv .0) (here c)
 
 loop-holds : tie.Need-loop-holds Inv-loop μ-loop
 loop-holds c =
-    let o = c .before .before .before in
+    let o = c .before .before in
     let p = o .pre in
     let n = there-some (p .1 .0) in
     (omega arith, partly-none (o .args .image .now) (o .args .g) (o .args .j) (o .args .buffer .now), sym (there-start (p .1 .0)))
@@ -76,13 +72,13 @@ part-copy-start-2 : tie.Need-part-copy-start-2 Inv-loop μ-loop
 part-copy-start-2 c = omega arith
 
 part-copy-end-2 : tie.Need-part-copy-end-2 Inv-loop μ-loop
-part-copy-end-2 c = let t = place (c .before .before) in omega (arith, long (c .before .before), c .before .before .before .before .before .before .pre .1 .1 .1)
+part-copy-end-2 c = let t = place (c .before .before) in omega (arith, long (c .before .before), c .before .before .before .before .before .pre .1 .1 .1)
 
 copy-requires : tie.Need-copy-requires Inv-loop μ-loop
 copy-requires c κs =
     let l = c .before .before .before in
     let t = place l in
-    let o = l .before .before .before .before in
+    let o = l .before .before .before in
     let r = c .before .before .sector-at in
     parts-same (o .args .image .now) (l .loop .buffer) (r .result) (l .loop .k * o .args .g .size) (o .args .g .size) (omega (arith, r .ensures)) (omega (arith, long l, o .pre .1 .1 .1)) (t .least)
 
@@ -92,12 +88,12 @@ add-k c = omega arith
 -- one sector more is copied
 more : (c : tie.After-copy Inv-loop μ-loop)
     → let l = c .before .before .before .before in
-    let a = l .before .before .before .before .args in
+    let a = l .before .before .before .args in
     let to = l .loop .k * a .g .size in
     putMid to (to + a .g .size - to) (l .loop .buffer) (c .copy .last .1 .0) ≡ partly (a .image .now) (a .g) (a .j) (a .buffer .now) (l .loop .k + 1)
 more c =
     let l = c .before .before .before .before in
-    let o = l .before .before .before .before in
+    let o = l .before .before .before in
     let p = o .pre in
     rw (c .copy .ensures, l .loop .inv .1, c .before .before .before .sector-at .ensures) (partly-more (p .0) (p .1 .0) (o .args .buffer .now) (l .loop .k) (l .loop .i) (omega arith) (l .loop .inv .2))
 
@@ -105,20 +101,20 @@ same-length : tie.Need-same-length Inv-loop μ-loop
 same-length c =
     let d = c .before .before .before in
     let l = d .before .before .before .before in
-    let p = l .before .before .before .before .pre in
+    let p = l .before .before .before .pre in
     ap length (more d) ∙ partly-length (p .0) (p .1 .0) _ (l .loop .k + 1) (omega arith) (rw (c .if1 .taken) (p .1 .1 .1))
 
 returns : tie.Need-returns Inv-loop μ-loop
 returns c =
     let d = c .before .before .before in
     let l = d .before .before .before .before in
-    let p = l .before .before .before .before .pre in
+    let p = l .before .before .before .pre in
     more d ∙ partly-all (p .0) (p .1 .0) _ (l .loop .k + 1) (omega arith)
 
-element-requires : tie.Need-element-requires Inv-loop μ-loop
-element-requires c κs =
+next-requires : tie.Need-next-requires Inv-loop μ-loop
+next-requires c κs =
     let l = c .before .before .before .before .before .before .before in
-    element-asks (l .before .before .before .before .pre .0) (l .before .table-of .ensures) _ (here l)
+    (l .before .before .before .pre .0, here l)
 
 loop-less : tie.Need-loop-less Inv-loop μ-loop
 loop-less c = omega arith
@@ -127,10 +123,9 @@ loop-again : tie.Need-loop-again Inv-loop μ-loop
 loop-again c =
     let d = c .before .before .before .before in
     let l = d .before .before .before .before in
-    let o = l .before .before .before .before in
+    let o = l .before .before .before in
     let p = o .pre in
-    let e = element-read (p .0) (l .before .table-of .ensures) _ _ (c .element .ensures) .0 in
-    (omega arith, more d, e ∙ ap (element (o .args .image .now)) (l .loop .inv .2) ∙ there-next (p .1 .0) (l .loop .k) (omega arith))
+    (omega arith, more d, c .next .ensures ∙ ap (element (o .args .image .now)) (l .loop .inv .2) ∙ there-next (p .1 .0) (l .loop .k) (omega arith))
 
 pub copy-product-spec : {M : Type 1} → statement M
 copy-product-spec =
@@ -138,7 +133,6 @@ copy-product-spec =
     (tie.spec
     Inv-loop
     μ-loop
-    table-of-requires
     loop-holds
     sector-at-requires
     add-from-end
@@ -154,6 +148,6 @@ copy-product-spec =
     add-k
     same-length
     returns
-    element-requires
+    next-requires
     loop-less
     loop-again)

@@ -1,14 +1,18 @@
--- `hex::read` is safe and ends: each turn leaves one byte fewer.
+-- `hex::read` meets its contract: each turn puts one more of the word's bytes at the front of the buffer.
 -- Assumes nothing.
+use mathlib.Core.Path.{_≡_, refl, sym, ap, _∙_}
+use Prim.Native.Nat.{_-_, _/_, _≤_, min}
+use native.Mathlib.Omega.{arith}
+use lib.ListN.{length, take, length-set}
+use Rattle.text.specs.Words.{fronted}
+use Rattle.text.specs.Hex.{bytesIn}
+use Rattle.text.proofs.Pairs.{halved, byte-at, one-more, whole}
 use borrow.Author.Needs.{needs}
-use mathlib.Core.Path.{_≡_}
-use Prim.Native.Nat.{_-_, _/_, _≤_}
-use lib.ListN.{length}
 use Rattle.text.proofs.hex.read.Statement.{statement}
 use Rattle.text.proofs.hex.read.Tie as tie
 
 abbrev Inv-loop : tie.InvT-loop
-Inv-loop word into₀ n i₀ into i = (length into ≡ length into₀) × (n ≤ length into₀) × (n ≤ length word / 2)
+Inv-loop word into₀ n i₀ into i = (length into ≡ length into₀) × (n ≡ min (length word / 2) (length into₀)) × (i ≤ n) × (into ≡ fronted (take i (bytesIn word)) into₀)
 
 abbrev μ-loop : tie.MeasureT-loop
 μ-loop word into₀ n i₀ into i = n - i
@@ -17,7 +21,7 @@ least-requires : tie.Need-least-requires Inv-loop μ-loop
 least-requires c κs = search needs
 
 loop-holds : tie.Need-loop-holds Inv-loop μ-loop
-loop-holds c = search needs
+loop-holds c = (refl, c .least .ensures .0, omega arith, refl)
 
 mul-at : tie.Need-mul-at Inv-loop μ-loop
 mul-at c = search needs
@@ -44,13 +48,21 @@ loop-less : tie.Need-loop-less Inv-loop μ-loop
 loop-less c = search needs
 
 loop-again : tie.Need-loop-again Inv-loop μ-loop
-loop-again c = search needs
+loop-again c =
+    let k = c .before .before .before .before .loop in
+    let w = c .before .before .before .before .before .before .before .before .args .word .now in
+    let h = halved w in
+    (simp length-set (k .inv .0), k .inv .1, omega arith, one-more (bytesIn w) _ _ (k .i) _ (k .inv .3) (omega arith) (omega arith) (c .byte .ensures ∙ sym (byte-at w (k .i) (omega arith))))
 
 same-length : tie.Need-same-length Inv-loop μ-loop
 same-length c = search needs
 
 returns : tie.Need-returns Inv-loop μ-loop
-returns c = search needs
+returns c =
+    let k = c .before .loop in
+    let w = c .before .before .before .before .before .args .word .now in
+    let h = halved w in
+    whole (bytesIn w) _ _ (k .i) (k .inv .3) (omega arith)
 
 pub read-spec : {M : Type 1} → statement M
 read-spec =

@@ -1,28 +1,35 @@
--- `words::place` is safe and ends: a list has no more commands than bytes, and every place found lies within it.
+-- `words::place` meets its contract: two words of the list are looked at in each turn, and what is left of it gives the place.
 -- Assumes nothing.
-use borrow.Author.Needs.{needs}
+use mathlib.Core.Path.{_≡_, refl, sym, _∙_}
 use Prim.Native.Nat.{_-_, _≤_}
-use lib.ListN.{length}
+use native.Mathlib.Omega.{arith}
+use lib.ListN.{length, drop}
+use borrow.Author.Needs.{needs}
+use Rattle.text.specs.Words.{words, placeFrom}
+use Rattle.text.proofs.Listed.{alone, found, last, on, at-end}
 use Rattle.text.proofs.words.place.Statement.{statement}
 use Rattle.text.proofs.words.place.Tie as tie
 
 abbrev Inv-loop : tie.InvT-loop
-Inv-loop word count list i₀ at₀ i at = at ≤ length list
+Inv-loop word count list i₀ at₀ i at =
+    (i ≤ at) × (at ≤ length list) × (placeFrom 0 word count (words list) ≡ placeFrom i word count (words (drop at list)))
 
 abbrev μ-loop : tie.MeasureT-loop
-μ-loop word count list i₀ at₀ i at = length list - i
+μ-loop word count list i₀ at₀ i at = length list - at
 
 loop-holds : tie.Need-loop-holds Inv-loop μ-loop
-loop-holds c = search needs
-
-returns : tie.Need-returns Inv-loop μ-loop
-returns c = search needs
+loop-holds c = (omega arith, omega arith, refl)
 
 end-requires : tie.Need-end-requires Inv-loop μ-loop
 end-requires c κs = search needs
 
-after-requires : tie.Need-after-requires Inv-loop μ-loop
-after-requires c κs = search needs
+returns : tie.Need-returns Inv-loop μ-loop
+returns c =
+    let k = c .before .before .before .loop in
+    sym (k .inv .2 ∙ alone _ _ _ (k .i) (k .at) _ (c .before .end .ensures .0) (omega arith))
+
+add-start : tie.Need-add-start Inv-loop μ-loop
+add-start c = search needs
 
 end-requires-2 : tie.Need-end-requires-2 Inv-loop μ-loop
 end-requires-2 c κs = search needs
@@ -52,22 +59,33 @@ takes-requires : tie.Need-takes-requires Inv-loop μ-loop
 takes-requires c κs = search needs
 
 returns-2 : tie.Need-returns-2 Inv-loop μ-loop
-returns-2 c = search needs
+returns-2 c =
+    let k = c .before .before .before .before .before .before .before .before .before .loop in
+    found _ _ _ (k .i) (k .at) _ _ _ _ _ (k .inv .2) (c .before .before .before .before .before .before .before .end .ensures .0) (c .before .before .before .before .before .end2 .ensures .0) (omega arith) (c .before .before .before .is .ensures) (c .before .takes .ensures) (c .if2 .taken)
+
+returns-3 : tie.Need-returns-3 Inv-loop μ-loop
+returns-3 c =
+    let k = c .before .before .before .before .before .before .before .before .before .before .loop in
+    last _ _ _ (k .i) (k .at) _ _ _ _ _ (k .inv .2) (c .before .before .before .before .before .before .before .before .end .ensures .0) (c .before .before .before .before .before .before .end2 .ensures .0) (omega arith) (c .before .before .before .before .is .ensures) (c .before .before .takes .ensures) (c .before .if2 .left) (omega arith)
 
 add-i : tie.Need-add-i Inv-loop μ-loop
 add-i c = search needs
 
-after-requires-2 : tie.Need-after-requires-2 Inv-loop μ-loop
-after-requires-2 c κs = search needs
+add-at : tie.Need-add-at Inv-loop μ-loop
+add-at c = search needs
 
 loop-less : tie.Need-loop-less Inv-loop μ-loop
 loop-less c = search needs
 
 loop-again : tie.Need-loop-again Inv-loop μ-loop
-loop-again c = search needs
+loop-again c =
+    let k = c .before .before .before .before .before .before .before .before .before .before .loop in
+    (omega arith, omega arith, on _ _ _ (k .i) (k .at) _ _ _ _ _ (k .inv .2) (c .before .before .before .before .before .before .before .before .end .ensures .0) (c .before .before .before .before .before .before .end2 .ensures .0) (omega arith) (c .before .before .before .before .is .ensures) (c .before .before .takes .ensures) (c .before .if2 .left) (omega arith))
 
-returns-3 : tie.Need-returns-3 Inv-loop μ-loop
-returns-3 c = search needs
+returns-4 : tie.Need-returns-4 Inv-loop μ-loop
+returns-4 c =
+    let k = c .before .loop in
+    at-end _ _ _ (k .i) (k .at) _ (k .inv .2) (omega arith)
 
 pub place-spec : {M : Type 1} → statement M
 place-spec =
@@ -76,9 +94,9 @@ place-spec =
     Inv-loop
     μ-loop
     loop-holds
-    returns
     end-requires
-    after-requires
+    returns
+    add-start
     end-requires-2
     sub-is
     part-is-start
@@ -89,8 +107,9 @@ place-spec =
     part-takes-end
     takes-requires
     returns-2
+    returns-3
     add-i
-    after-requires-2
+    add-at
     loop-less
     loop-again
-    returns-3)
+    returns-4)

@@ -4,13 +4,8 @@ use Rattle.ticket.proofs.Limits.{fit-lowest}
 use Rattle.ticket.proofs.bytes.store_record.Statement.{statement}
 use Rattle.ticket.proofs.bytes.store_record.Tie as tie
 
-slice-aggregate-store-all : tie.Need-slice-aggregate-store-all
-slice-aggregate-store-all c = search needs
-
 store-all-requires : tie.Need-store-all-requires
-store-all-requires c κs =
-    let i = c .before .before .before .before in
-    (fit-lowest (i .args .t .values) (search needs) (i .pre .1), i .pre .0)
+store-all-requires c κs = let o = c .before .before .before in (fit-lowest (o .args .values .now) (o .pre .1) (o .pre .2), o .pre .0)
 
 same-length : tie.Need-same-length
 same-length c = search needs
@@ -19,5 +14,4 @@ returns : tie.Need-returns
 returns c = search needs
 
 pub store-record-spec : {M : Type 1} → statement M
-store-record-spec =
-    tie.close (tie.spec slice-aggregate-store-all store-all-requires same-length returns)
+store-record-spec = tie.close (tie.spec store-all-requires same-length returns)

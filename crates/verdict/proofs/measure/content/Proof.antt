@@ -12,7 +12,8 @@ use Rattle.bits.specs.Bits.{field}
 use Rattle.bits.proofs.Laws.{field-drop}
 use Rattle.crc.specs.Crc.{crc}
 use Rattle.fields.specs.Fields.{fields}
-use Rattle.rules.specs.Claim.{_≡?_, Rule, rule, Fails, here, later, first}
+use Rattle.rules.specs.Claim.{_≡?_, Rule, rule, Fails, here, later}
+use Rattle.rules.specs.First.{first}
 use Rattle.rules.proofs.ClaimLaws.{fails-in, fails-after, kept-both}
 use Rattle.rules.proofs.First.{first-of-kept, first-of-fails, kept-of-first, fails-of-first}
 use Rattle.shell.specs.Shell.{IIN, ISSN, CHD, digitRules}

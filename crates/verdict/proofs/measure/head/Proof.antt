@@ -4,7 +4,8 @@ use mathlib.Core.List.{List}
 use native.Mathlib.Omega.{arith}
 use Prim.Native.Nat.{ℕ}
 use borrow.Author.Needs.{needs}
-use Rattle.rules.specs.Claim.{Fails, here, later, first}
+use Rattle.rules.specs.Claim.{Fails, here, later}
+use Rattle.rules.specs.First.{first}
 use Rattle.rules.proofs.First.{first-of-kept, first-of-fails}
 use Rattle.image.specs.Image.{stated, version, copy}
 use Rattle.image.specs.Rules.{headRules}

@@ -6,7 +6,8 @@ use Prim.Native.Nat.{ℕ, _+_, _*_}
 use borrow.Author.Needs.{needs}
 use Rattle.chains.specs.Psi.{tableBytes}
 use Rattle.fields.specs.Fields.{fields}
-use Rattle.rules.specs.Claim.{Rule, Kept, Fails, here, later, first}
+use Rattle.rules.specs.Claim.{Rule, Kept, Fails, here, later}
+use Rattle.rules.specs.First.{first}
 use Rattle.rules.proofs.ClaimLaws.{fails-in, fails-after}
 use Rattle.rules.proofs.First.{first-of-kept, first-of-fails, kept-of-first, fails-of-first}
 use Rattle.shell.specs.Shell.{ShellLength, ShellBitMap, formRules}

@@ -1,0 +1,6 @@
+pub mod Found
+pub mod Numbers
+pub mod Lent
+pub mod Made
+pub mod Stepped
+pub mod Read

@@ -1,0 +1,13 @@
+-- The step that a command asks for. Assumes nothing.
+use Prim.Native.Nat.{ℕ}
+use mathlib.Core.List.{List}
+use Rattle.steps.specs.Step.{Step, write, writeAll, setMark}
+use Rattle.console.specs.Commands.{numbersFrom}
+use Rattle.console.specs.declared.commands.Change.{Change}
+use Rattle.console.specs.declared.commands.Change.the-variants.{Field, Record, Mark}
+
+-- with the numbers ns of the line: a record's values are the twenty-two after the entry
+abbrev pub stepOf : Change → List ℕ → Step
+stepOf (Field j n v) ns = write j n v
+stepOf (Record j) ns = writeAll j (numbersFrom 22 1 ns)
+stepOf (Mark j m) ns = setMark j m

@@ -1,0 +1,4 @@
+pub mod Commands
+pub mod Changes
+pub mod Lends
+pub mod Makes

@@ -1,0 +1,105 @@
+-- Demand 2 is kept: each sentence is a law of the crate that it is about, and here they stand together, field by field of the page. Assumes nothing.
+use mathlib.Core.Path.{refl, sym, ap, _∙_}
+use mathlib.Core.List.{List, _++_}
+use Prim.Native.Nat.{ℕ}
+use native.Mathlib.Omega.{arith}
+use lib.ListN.{length}
+use Rattle.bits.proofs.Laws.{field-lt, digit-field, field-store, store-field}
+use Rattle.crc.proofs.Examples.{example-1, example-2, example-3, check-value}
+use Rattle.dates.specs.declared.Stamped.{Stamped}
+use Rattle.dates.proofs.Stamps as stamps
+use Rattle.dates.proofs.Undo.{stamp-again}
+use Rattle.dates.proofs.Exactly.{stamp-dated}
+use Rattle.chains.proofs.PsiLaws.{psi-is, psi-one}
+use Rattle.shell.specs.declared.Shell.{Shell}
+use Rattle.shell.proofs.Round as shell
+use Rattle.directory.proofs.Round as directory
+use Rattle.table.proofs.Places.{drop-zeros}
+use Rattle.table.proofs.Round as table
+use Rattle.ticket.specs.declared.Record.{Record}
+use Rattle.ticket.specs.declared.Encoded.{Encoded}
+use Rattle.ticket.proofs.HeaderRound as header
+use Rattle.ticket.proofs.Round as ticket
+use Rattle.ticket.proofs.Steps.{taken-next, taken-value}
+use Rattle.image.specs.Image.{sectors}
+use Rattle.image.proofs.Exact.{accepted-exactly, obeys-facts}
+use Rattle.image.proofs.Answers.{check-says, accepted-values}
+use Rattle.image.proofs.Limits.{size-limits}
+use Rattle.image.proofs.Stays.{chain-of, chain-only}
+use Rattle.image.proofs.First.{product-size}
+use Rattle.reads.proofs.Values as values
+use Rattle.reads.proofs.Encoded as encoded
+use Rattle.reads.proofs.Agree.{empty-refused}
+use Rattle.steps.specs.Step.{write, setMark}
+use Rattle.steps.proofs.Acts.{zero-taken, next-is}
+use Rattle.steps.proofs.Frame.{frame, length-next, after-table}
+use Rattle.steps.proofs.Keeps.{all-stays, mark-own}
+use Rattle.steps.proofs.Written as written
+use Rattle.worked.specs.Cards.{smallCard, largest}
+use Rattle.worked.specs.Told.{used}
+use Rattle.worked.proofs.Sizes.{smallest-obeys, largest-obeys}
+use Rattle.worked.proofs.Told.{used-steps}
+use Rattle.promises.specs.Demands.{Demand2}
+use Rattle.promises.proofs.Encoded as whole
+use Rattle.promises.proofs.ReadAgain.{record-read-again, field-read-again}
+
+pub demand2 : Demand2
+demand2 = record {
+  accepted = λ c. let e = check-says c .0 in ((λ z. accepted-exactly c .0 (sym e ∙ z)), λ o. e ∙ accepted-exactly c .1 o);
+  sizes = λ c o. size-limits c (obeys-facts c o);
+  psi = λ s h k. let q = psi-is s (omega arith) k in (q, λ p e. psi-one s p _ e q);
+  check-read = accepted-values;
+  shell-read = values.shell-read;
+  directory-read = values.directory-read;
+  table-read = λ c o. (values.table-count c o, values.table-length c o, values.table-value c o, values.table-after c o);
+  entry-read = values.entry-read;
+  chain-is = λ c j o v. let f = obeys-facts c o in (chain-of c f v, (λ ss m d. chain-only c f v d), product-size c f v);
+  chain-read = λ c j z.
+      let r = values.chain-read c j z in
+      (r .0, r .1, r .2 ∙ ap (λ (l : List ℕ). sectors c j ++ l) (drop-zeros (length (sectors c j)) 252));
+  ticket-read = values.ticket-read;
+  ticket-end = values.end-read;
+  buffer-read = values.buffer-read;
+  fill-read = values.fill-read;
+  rest-read = values.rest-read;
+  rest-empty = empty-refused;
+  shell-decoded = λ b. refl;
+  directory-decoded = λ b. (refl, refl, refl);
+  ticket-decoded = λ b. (refl, refl);
+  table-decoded = table.decoded;
+  date-read = stamps.taken;
+  shell-same = λ c l b o. whole.shell-encoded c b o l;
+  head-same = encoded.head-encoded;
+  tail-same = encoded.tail-encoded;
+  table-same = λ c l b o. whole.table-encoded c b o l;
+  entry-same = encoded.entry-encoded;
+  header-same = encoded.header-encoded;
+  ticket-same = encoded.ticket-encoded;
+  date-same = λ s h. let e = stamp-again s h in (ap (λ (x : Stamped). x .number) e, ap (λ (x : Stamped). x .stamp) e);
+  shell-written = λ vs l n z. (shell.encoded vs l z, ap (λ (s : Shell). s .values) (shell.decode-encode vs l z n));
+  entry-written = λ vs n z. (rw z, directory.entry-back vs n (directory.entry-exactly vs .0 .0 z));
+  head-written = λ vs n z. (rw z, directory.head-back vs n (directory.head-exactly vs .0 .0 z));
+  tail-written = λ vs n z. (rw z, directory.tail-back vs n (directory.tail-exactly vs .0 .0 z));
+  header-written = λ vs n z. (rw z, header.header-back vs n (header.header-exactly vs .0 .0 z));
+  ticket-written = λ t z.
+      let f = ticket.taken-fits t z in
+      (ap (λ (x : Encoded). x .bytes) (ticket.taken t f), ticket.decode-encode t f);
+  table-written = λ s es l z. (table.encoded s es l z, table.table-back s es l z);
+  stamp-written = stamp-dated;
+  value-set = λ t n v z. ap (λ (u : Record). u .values) (taken-next t n v z);
+  value-read = taken-value;
+  record-again = record-read-again;
+  field-again = λ c j n v b z. written.field-read c b j n v (zero-taken c (write j n v) z);
+  field-read-again = field-read-again;
+  stored = λ c s z. next-is c s (zero-taken c s z);
+  again = λ c s b z. let t = zero-taken c s z in (written.again-taken c s b t, written.again c s b t);
+  mark-again = λ c j m b z. mark-own c b (setMark j m) (zero-taken c (setMark j m) z);
+  mark-already = λ c j m b o v l h e. (written.mark-accepted c j m (obeys-facts c o) v (l, h) e, written.mark-again c j m b e);
+  frame = λ c s b. (length-next c s, frame c s b);
+  stays = all-stays;
+  seals = λ c s b o i h k. after-table c s b i h;
+  some-sizes = let x = smallest-obeys in let y = largest-obeys in ((smallCard 0 0, x .0, x .1, x .2), (largest, y .0, y .1, y .2));
+  some-steps = let x = used-steps in (used, x .0, x .1, x .2, x .3, x .4, x .5, x .6);
+  crc-published = (example-1, example-2, example-3, check-value);
+  field-once = λ l p w. (field-lt l p w, digit-field l p w, store-field l p w, field-store l p w);
+}

@@ -1,0 +1,221 @@
+-- The page to sign: the three demands, sentence by sentence in the request's order and words, each a statement over the definitions that README lists.
+-- A published call's contract says that its answer and each lent byte are what the definition named here gives: `checkOf`, `readTicket`, `answer`, `next` ..
+-- `Kept.kept` proves the page, and contracts `Once` that each contract leaves no choice. An image or buffer is a list of bytes (`Bytes`). Assumes nothing.
+use mathlib.Core.Path.{_≡_}
+use mathlib.Core.Logic.{_↔_, _≢_, _⊎_}
+use mathlib.Core.List.{List, [], _∷_, _++_}
+use Prim.Native.Nat.{ℕ, _+_, _-_, _*_, _^_, _≤_, _<_}
+use lib.ListN.{length, getD, set, take, drop, replicate}
+use Rattle.rules.specs.Claim.{_≤?_, rule, Answers}
+use Rattle.bits.specs.Bits.{Bytes, digit, bit, field, store, Outside}
+use Rattle.fields.specs.Lists as lists
+use Rattle.fields.specs.Fields.{fields, stores, packRules}
+use Rattle.fields.specs.declared.Layout.the-variants.{Entry, Head, Tail, Header}
+use Rattle.crc.specs.Crc.{crc}
+use Rattle.dates.specs.Calendar.{date, stampDate, dated, dateOf, stampOf}
+use Rattle.dates.specs.Impossible.{Unstamped}
+use Rattle.chains.specs.Chain.{In, Chain, lastOf}
+use Rattle.chains.specs.Psi.{Ψ, IsPsi}
+use Rattle.shell.specs.Shell as shell
+use Rattle.shell.specs.Encode as shell-call
+use Rattle.directory.specs.Records.{entryBytes, entryIn, headBytes, headIn, tailBytes, tailIn}
+use Rattle.table.specs.Table as table
+use Rattle.table.specs.Coded as table-call
+use Rattle.ticket.specs.Kind.{fieldRule, setRules, recordRule}
+use Rattle.ticket.specs.Ticket as ticket
+use Rattle.ticket.specs.Ticket.{setOf, valueOf, headerBytes, headerIn}
+use Rattle.ticket.specs.declared.Record.{Record}
+use Rattle.image.specs.Image.{copy, shellValues, dataset, B, S, e#, SCTL, sectorAt, directoryAt, entryAt, tableAt, element, sectors, mark, product}
+use Rattle.image.specs.Product.{elementAt, productAt}
+use Rattle.image.specs.Obeys.{IsProduct, Obeys, Says, Gives}
+use Rattle.image.specs.Answer.{numberOf, entryOf, valuesOf}
+use Rattle.image.specs.Check.{checkOf}
+use Rattle.reads.specs.Values.{directoryValues, entryValues, ticketRules, timeIn, ticketEnd, extent}
+use Rattle.reads.specs.Card.{readShell, readDirectory, readTable}
+use Rattle.reads.specs.Entry.{readEntry, readChain}
+use Rattle.reads.specs.Ticket.{readTicket, bufferAfter, fillOf, rest, restAt}
+use Rattle.steps.specs.Step.{Step, write, writeAll, setMark, owner, stepRules, target, newValues}
+use Rattle.steps.specs.Steps.{answer, next}
+use Rattle.steps.specs.Touched.{Touched, Compares}
+use Rattle.steps.specs.Flags.{touchedAnswer, touchedFlags}
+use Rattle.mixing.specs.Run.{end, log}
+use Rattle.mixing.specs.Mix as jobs
+use Rattle.mixing.specs.Mix.{Mix, Job, Separate}
+use Rattle.jobs.specs.Demand.{cardSteps, Serves}
+use Rattle.jobs.specs.Named.{Named}
+
+-- G holds of the number n with the entry e, and of no other pair
+abbrev pub Exactly : ℕ → ℕ → (ℕ → ℕ → Type 0) → Type 0
+Exactly n e G = (m f : ℕ) → ((n ≡ m) × (e ≡ f)) ↔ G m f
+
+-- "Every call ends, on every image and every argument": the language's. "And does its own checking": no call asks anything first (contracts `Once`).
+pub record Demand1 : Type 0 where
+  -- "A refusal gives its number and the entry concerned", "and the image and any buffer lent with it keep all their old bytes"; zeros else ("Numbers given back")
+  pub check : (c : List ℕ) → Exactly (numberOf (checkOf c)) (entryOf (checkOf c)) (Says c) × (numberOf (checkOf c) ≢ 0 → valuesOf (checkOf c) ≡ replicate 9 0)
+  pub read-shell : (c : List ℕ) → Exactly (readShell c .number) (readShell c .entry) (Says c) × (readShell c .number ≢ 0 → readShell c .values ≡ replicate 16 0)
+  pub read-directory : (c : List ℕ)
+      → Exactly (readDirectory c .number) (readDirectory c .entry) (Says c) × (readDirectory c .number ≢ 0 → readDirectory c .values ≡ replicate 7 0)
+  pub read-table : (c : List ℕ)
+      → Exactly (readTable c .number) (readTable c .entry) (Says c) × (readTable c .number ≢ 0 → (readTable c .count ≡ 0) × (readTable c .elements ≡ replicate 252 0))
+  pub read-entry : (c : List ℕ) (j : ℕ)
+      → Exactly (readEntry c j .number) (readEntry c j .entry) (Gives c j (λ p. [])) × (readEntry c j .number ≢ 0 → readEntry c j .values ≡ replicate 7 0)
+  pub read-chain : (c : List ℕ) (j : ℕ) → Exactly (readChain c j .number) (readChain c j .entry) (Gives c j (λ p. []))
+      × (readChain c j .number ≢ 0 → (readChain c j .mark ≡ 0) × (readChain c j .count ≡ 0) × (readChain c j .sectors ≡ replicate 252 0))
+  pub read-ticket : (c : List ℕ) (j room : ℕ) → Exactly (readTicket c j room .number) (readTicket c j room .entry) (Gives c j (ticketRules room (timeIn c j)))
+      × (readTicket c j room .number ≢ 0 → (readTicket c j room .header ≡ replicate 3 0) × (readTicket c j room .values ≡ replicate 22 0)
+      × (readTicket c j room .end ≡ 0) × (readTicket c j room .mark ≡ 0) × (readTicket c j room .sectors ≡ 0))
+  pub fill : (c : List ℕ) (j room : ℕ) → Exactly (fillOf c j room .number) (fillOf c j room .entry) (Gives c j (ticketRules room (timeIn c j)))
+      × (fillOf c j room .number ≢ 0 → fillOf c j room .end ≡ 0)
+  -- the buffer b after read_ticket or fill; what is lent to be read alone no call can write
+  pub buffer : (c : List ℕ) (j : ℕ) (b : List ℕ) → readTicket c j (length b) .number ≢ 0 → bufferAfter c j b ≡ b
+  -- the one exception: `rest` hands back a part of the buffer, here none; of the other bytes its contract can't speak, and `fill`, which it calls first, does
+  pub rest-refused : (c : List ℕ) (j room : ℕ) → readTicket c j room .number ≢ 0 → (rest c j room ≡ []) × (restAt c j room ≡ 0)
+  -- a field write, a record write, a mark
+  pub step : (c : List ℕ) (s : Step)
+      → Exactly (answer c s .number) (answer c s .entry) (Gives c (owner s) (λ p. stepRules p s)) × (answer c s .number ≢ 0 → next c s ≡ c)
+  pub touched : (c d f : List ℕ) → Exactly (touchedAnswer c d (length f) .number) (touchedAnswer c d (length f) .entry) (Compares c d (length f))
+      × (touchedAnswer c d (length f) .number ≢ 0 → touchedFlags c d f ≡ f)
+  -- refused, a record step gives back the record it took; decoders of arrays give no number and can't refuse
+  pub record-set : (t : Record) (n v : ℕ)
+      → Exactly (setOf t n v .number) (setOf t n v .entry) (Answers (setRules n v)) × (setOf t n v .number ≢ 0 → setOf t n v .next ≡ t)
+  pub record-value : (t : Record) (n : ℕ)
+      → Exactly (valueOf t n .number) (valueOf t n .entry) (Answers (fieldRule n ∷ [])) × (valueOf t n .number ≢ 0 → valueOf t n .value ≡ 0)
+  pub encode-shell : (vs l : List ℕ) → Exactly (shell-call.encodeNumber vs (length l)) 0 (Answers (shell.encodeRules vs (length l)))
+      × (shell-call.encodeNumber vs (length l) ≢ 0 → shell-call.encodeIn vs l ≡ l)
+  pub encode-entry : (vs : List ℕ)
+      → Exactly (entryBytes vs .number) (entryBytes vs .entry) (Answers (packRules Entry vs)) × (entryBytes vs .number ≢ 0 → entryBytes vs .bytes ≡ replicate 5 0)
+  pub encode-head : (vs : List ℕ)
+      → Exactly (headBytes vs .number) (headBytes vs .entry) (Answers (packRules Head vs)) × (headBytes vs .number ≢ 0 → headBytes vs .bytes ≡ replicate 2 0)
+  pub encode-tail : (vs : List ℕ)
+      → Exactly (tailBytes vs .number) (tailBytes vs .entry) (Answers (packRules Tail vs)) × (tailBytes vs .number ≢ 0 → tailBytes vs .bytes ≡ replicate 6 0)
+  pub encode-header : (vs : List ℕ)
+      → Exactly (headerBytes vs .number) (headerBytes vs .entry) (Answers (packRules Header vs)) × (headerBytes vs .number ≢ 0 → headerBytes vs .bytes ≡ replicate 2 0)
+  pub encode-ticket : (t : Record) → Exactly (ticket.encodeOf t .number) (ticket.encodeOf t .entry) (Answers (recordRule (t .values) ∷ []))
+      × (ticket.encodeOf t .number ≢ 0 → ticket.encodeOf t .bytes ≡ replicate 27 0)
+  pub encode-table : (s : ℕ) (es l : List ℕ) → Exactly (table-call.encodeNumber s es (length l)) 0 (Answers (table.encodeRules s es (length l)))
+      × (table-call.encodeNumber s es (length l) ≢ 0 → table-call.encodeIn s es l ≡ l)
+  pub decode-table : (s : ℕ) (b : List ℕ) → Exactly (table-call.decodeOf s b .number) (table-call.decodeOf s b .entry) (Answers (table.decodeRules s (length b)))
+      × (table-call.decodeOf s b .number ≢ 0 → (table-call.decodeOf s b .count ≡ 0) × (table-call.decodeOf s b .elements ≡ replicate 252 0))
+  pub date-of : (s : ℕ) → Exactly (dateOf s .number) (dateOf s .entry) (Answers (rule 30 (s ≤? 16383) ∷ []))
+      × (dateOf s .number ≢ 0 → (dateOf s .year ≡ 0) × (dateOf s .month ≡ 0) × (dateOf s .day ≡ 0))
+  pub stamp-of : (y m d : ℕ) → ((stampOf y m d .number ≡ 29) ↔ Unstamped (date y m d)) × (stampOf y m d .entry ≡ 0)
+      × (stampOf y m d .number ≢ 0 → (stampOf y m d .number ≡ 29) × (stampOf y m d .stamp ≡ 0))
+
+pub record Demand2 : Type 0 where
+  -- "A card image is accepted exactly when it obeys the rules of ITSO TS 1000 parts 1, 2 and 5 as document 01 sets them out."
+  pub accepted : (c : List ℕ) → (numberOf (checkOf c) ≡ 0) ↔ Obeys c
+  pub sizes : (c : List ℕ) → Obeys c → (132 ≤ length c) × (length c ≤ 60439)
+  pub psi : (s : ℕ) → 4 ≤ s → s ≤ 255 → IsPsi s (Ψ s) × ((p : ℕ) → IsPsi s p → p ≡ Ψ s)
+  -- "Each field of shell, directory and ticket is read as the value its bits carry there."
+  pub check-read : (c : List ℕ) → Obeys c
+      → valuesOf (checkOf c) ≡ copy c ∷ dataset c ∷ B c ∷ S c ∷ e# c ∷ SCTL c ∷ Ψ (S c) ∷ directoryAt c ∷ tableAt c ∷ []
+  pub shell-read : (c : List ℕ) → Obeys c → readShell c .values ≡ fields (drop 4 c) lists.shell
+  pub directory-read : (c : List ℕ) → Obeys c → readDirectory c .values ≡ directoryValues c
+  pub table-read : (c : List ℕ) → Obeys c → (readTable c .count ≡ S c - 3) × (length (readTable c .elements) ≡ 252)
+      × ((i : ℕ) → i < S c - 3 → getD (readTable c .elements) i 0 ≡ element c (1 + i)) × ((i : ℕ) → S c - 3 ≤ i → getD (readTable c .elements) i 0 ≡ 0)
+  pub entry-read : (c : List ℕ) (j : ℕ) → readEntry c j .number ≡ 0 → readEntry c j .values ≡ entryValues c j
+  -- a product's sectors are those of its chain, of which there is one, so that their count is the chain's length
+  pub chain-is : (c : List ℕ) (j : ℕ) → Obeys c → IsProduct c j → Chain (element c) (S c) j (sectors c j) (mark c j)
+      × ((ss : List ℕ) (m : ℕ) → Chain (element c) (S c) j ss m → (ss ≡ sectors c j) × (m ≡ mark c j)) × (length (product c j) ≡ length (sectors c j) * B c)
+  pub chain-read : (c : List ℕ) (j : ℕ) → readChain c j .number ≡ 0 → (readChain c j .mark ≡ mark c j) × (readChain c j .count ≡ length (sectors c j))
+      × (readChain c j .sectors ≡ sectors c j ++ replicate (252 - length (sectors c j)) 0)
+  pub ticket-read : (c : List ℕ) (j room : ℕ) → readTicket c j room .number ≡ 0
+      → (readTicket c j room .header ≡ fields (product c j) lists.head) × (readTicket c j room .values ≡ fields (product c j) lists.typ23)
+      × (readTicket c j room .end ≡ ticketEnd c j) × (readTicket c j room .mark ≡ mark c j) × (readTicket c j room .sectors ≡ length (sectors c j))
+  pub ticket-end : (c : List ℕ) (j room : ℕ) → readTicket c j room .end ≤ 23594399
+  pub buffer-read : (c : List ℕ) (j : ℕ) (b : List ℕ) → readTicket c j (length b) .number ≡ 0 → bufferAfter c j b ≡ product c j ++ drop (length (product c j)) b
+  pub fill-read : (c : List ℕ) (j room : ℕ) → fillOf c j room .number ≡ 0 → fillOf c j room .end ≡ extent c j
+  pub rest-read : (c : List ℕ) (j room : ℕ) → readTicket c j room .number ≡ 0 → (rest c j room ≡ take (extent c j - 29) (drop 29 (product c j))) × (restAt c j room ≡ 29)
+  pub rest-empty : (c : List ℕ) (j room : ℕ) → (rest c j room ≡ []) ↔ (readTicket c j room .number ≢ 0)
+  -- the decoders, and the dates
+  pub shell-decoded : (b : List ℕ) → shell-call.decodeOf b .values ≡ fields b lists.shell
+  pub directory-decoded : (b : List ℕ) → (entryIn b .values ≡ fields b lists.entry) × (headIn b .values ≡ fields b lists.head) × (tailIn b .values ≡ fields b lists.tail)
+  pub ticket-decoded : (b : List ℕ) → (headerIn b .values ≡ fields b lists.head) × (ticket.decodeOf b .values ≡ fields (0 ∷ 0 ∷ b) lists.typ23)
+  pub table-decoded : (s : ℕ) (b : List ℕ) → table-call.decodeOf s b .number ≡ 0 → (table-call.decodeOf s b .count ≡ s - 3)
+      × (table-call.decodeOf s b .elements ≡ fields b (table.elementPlaces s) ++ replicate (252 - (s - 3)) 0)
+  pub date-read : (s : ℕ) → s ≤ 16383 → dateOf s ≡ dated 0 (stampDate s)
+  -- "What was read encodes to the same bits."
+  pub shell-same : (c l : List ℕ) → Bytes c → Obeys c → dataset c ≤ length l → (shell-call.encodeNumber (readShell c .values) (length l) ≡ 0)
+      × (shell-call.encodeIn (readShell c .values) l ≡ take (dataset c) (drop 4 c) ++ drop (dataset c) l)
+  pub head-same : (c : List ℕ) → Bytes c → Obeys c
+      → headBytes (take 3 (readDirectory c .values)) ≡ record { number = 0; entry = 0; bytes = take 2 (drop (directoryAt c) c) }
+  pub tail-same : (c : List ℕ) → Bytes c → Obeys c
+      → tailBytes (drop 3 (readDirectory c .values)) ≡ record { number = 0; entry = 0; bytes = take 6 (drop (tableAt c + SCTL c) c) }
+  pub table-same : (c l : List ℕ) → Bytes c → Obeys c → length l ≡ SCTL c
+      → (table-call.encodeNumber (S c) (take (S c - 3) (readTable c .elements)) (length l) ≡ 0)
+      × (table-call.encodeIn (S c) (take (S c - 3) (readTable c .elements)) l ≡ take (SCTL c) (drop (tableAt c) c))
+  pub entry-same : (c : List ℕ) (j : ℕ) → Bytes c → readEntry c j .number ≡ 0
+      → entryBytes (readEntry c j .values) ≡ record { number = 0; entry = 0; bytes = take 5 (drop (entryAt c j) c) }
+  pub header-same : (c : List ℕ) (j room : ℕ) → Bytes c → readTicket c j room .number ≡ 0
+      → headerBytes (readTicket c j room .header) ≡ record { number = 0; entry = 0; bytes = take 2 (product c j) }
+  pub ticket-same : (c : List ℕ) (j room : ℕ) → Bytes c → readTicket c j room .number ≡ 0
+      → ticket.encodeOf (record { values = readTicket c j room .values }) ≡ record { number = 0; entry = 0; bytes = take 27 (drop 2 (product c j)) }
+  pub date-same : (s : ℕ) → s ≤ 16383
+      → (stampOf (dateOf s .year) (dateOf s .month) (dateOf s .day) .number ≡ 0) × (stampOf (dateOf s .year) (dateOf s .month) (dateOf s .day) .stamp ≡ s)
+  -- what an encoder writes, and document 01: "Decoding what these wrote .. gives the values back"
+  pub shell-written : (vs l : List ℕ) → length vs ≡ 16 → shell-call.encodeNumber vs (length l) ≡ 0
+      → (shell-call.encodeIn vs l ≡ shell.encodedShell vs ++ drop (shell.datasetOf vs) l) × (shell-call.decodeOf (take 20 (shell-call.encodeIn vs l)) .values ≡ vs)
+  pub entry-written : (vs : List ℕ) → length vs ≡ 7 → entryBytes vs .number ≡ 0
+      → (entryBytes vs .bytes ≡ stores (replicate 5 0) lists.entry vs) × (entryIn (entryBytes vs .bytes) .values ≡ vs)
+  pub head-written : (vs : List ℕ) → length vs ≡ 3 → headBytes vs .number ≡ 0
+      → (headBytes vs .bytes ≡ stores (replicate 2 0) lists.head vs) × (headIn (headBytes vs .bytes) .values ≡ vs)
+  pub tail-written : (vs : List ℕ) → length vs ≡ 4 → tailBytes vs .number ≡ 0
+      → (tailBytes vs .bytes ≡ stores (replicate 6 0) lists.tail vs) × (tailIn (tailBytes vs .bytes) .values ≡ vs)
+  pub header-written : (vs : List ℕ) → length vs ≡ 3 → headerBytes vs .number ≡ 0
+      → (headerBytes vs .bytes ≡ stores (replicate 2 0) lists.head vs) × (headerIn (headerBytes vs .bytes) .values ≡ vs)
+  pub ticket-written : (t : Record) → ticket.encodeOf t .number ≡ 0
+      → (ticket.encodeOf t .bytes ≡ drop 2 (stores (replicate 29 0) lists.typ23 (t .values))) × (ticket.decodeOf (ticket.encodeOf t .bytes) ≡ t)
+  pub table-written : (s : ℕ) (es l : List ℕ) → table-call.encodeNumber s es (length l) ≡ 0
+      → (table-call.encodeIn s es l ≡ stores (replicate (length l) 0) (table.elementPlaces s) es)
+      × (table-call.decodeOf s (table-call.encodeIn s es l) ≡ record { number = 0; entry = 0; count = s - 3; elements = es ++ replicate (252 - (s - 3)) 0 })
+  pub stamp-written : (y m d : ℕ) → stampOf y m d .number ≡ 0 → (stampOf y m d .stamp ≤ 16383) × (stampDate (stampOf y m d .stamp) ≡ date y m d)
+  pub value-set : (t : Record) (n v : ℕ) → setOf t n v .number ≡ 0 → setOf t n v .next .values ≡ set (t .values) (n - 1) v
+  pub value-read : (t : Record) (n : ℕ) → valueOf t n .number ≡ 0 → valueOf t n .value ≡ getD (t .values) (n - 1) 0
+  -- "A ticket record that fits its fields, once a write of it has been taken, is read again as it was, given a buffer that holds its product."
+  pub record-again : (c : List ℕ) (j : ℕ) (vs : List ℕ) (room : ℕ) → Bytes c → answer c (writeAll j vs) .number ≡ 0 → length (product c j) ≤ room
+      → (readTicket (next c (writeAll j vs)) j room .number ≡ 0) × (readTicket (next c (writeAll j vs)) j room .values ≡ vs)
+  pub field-again : (c : List ℕ) (j n v : ℕ) → Bytes c → answer c (write j n v) .number ≡ 0
+      → fields (product (next c (write j n v)) j) lists.typ23 ≡ set (fields (product c j) lists.typ23) (n - 1) v
+  -- the read after it is taken too, but for the house rule: an ExpiryTime of 1,440 or more that stood there and was not the field written
+  pub field-read-again : (c : List ℕ) (j n v room : ℕ) → Bytes c → answer c (write j n v) .number ≡ 0 → length (product c j) ≤ room
+      → (n ≡ 9) ⊎ (timeIn c j < 1440) → readTicket (next c (write j n v)) j room .number ≡ 0
+  -- what a taken step stores; that the same step again is taken and changes nothing; the mark that is read then
+  pub stored : (c : List ℕ) (s : Step) → answer c s .number ≡ 0
+      → next c s ≡ stores c (target (productAt c (owner s)) s) (newValues (productAt c (owner s)) s)
+  pub again : (c : List ℕ) (s : Step) → Bytes c → answer c s .number ≡ 0 → (answer (next c s) s .number ≡ 0) × (next (next c s) s ≡ next c s)
+  pub mark-again : (c : List ℕ) (j m : ℕ) → Bytes c → answer c (setMark j m) .number ≡ 0 → mark (next c (setMark j m)) j ≡ m
+  pub mark-already : (c : List ℕ) (j m : ℕ) → Bytes c → Obeys c → IsProduct c j → 1 ≤ m → m ≤ 2 → mark c j ≡ m
+      → (answer c (setMark j m) .number ≡ 0) × (next c (setMark j m) ≡ c)
+  -- "No step alters a bit outside its ticket's chain and that chain's own last table element."
+  pub frame : (c : List ℕ) (s : Step) → Bytes c → (length (next c s) ≡ length c)
+      × ((i : ℕ) → ((k : ℕ) → In k (sectors c (owner s)) → Outside (8 * sectorAt c k) (8 * B c) i)
+      → Outside (elementAt c (lastOf (sectors c (owner s)))) (Ψ (S c)) i → bit (next c s) i ≡ bit c i)
+  -- so the image stays acceptable, with its shell and its products, each with its sectors; every other product keeps its bytes and its mark
+  pub stays : (c : List ℕ) (s : Step) → Bytes c → Obeys c → Obeys (next c s) × (shellValues (next c s) ≡ shellValues c)
+      × ((j : ℕ) → IsProduct c j ↔ IsProduct (next c s) j) × ((j : ℕ) → IsProduct c j → sectors (next c s) j ≡ sectors c j)
+      × ((j : ℕ) → IsProduct c j → owner s ≢ j → (product (next c s) j ≡ product c j) × (mark (next c s) j ≡ mark c j))
+  -- "Seals belong to the security module and stay opaque here": from DIRS# to the end of the directory sector no step alters a bit
+  pub seals : (c : List ℕ) (s : Step) → Bytes c → Obeys c
+      → (i : ℕ) → 8 * (tableAt c + SCTL c) ≤ i → i < 8 * (directoryAt c + B c) → bit (next c s) i ≡ bit c i
+  -- document 01, "How tight": "a library that refuses everything", "one that does nothing": there are cards that are accepted, read, written and marked
+  pub some-sizes : ((c : List ℕ) × Bytes c × Obeys c × (length c ≡ 132)) × ((c : List ℕ) × Bytes c × Obeys c × (length c ≡ 60439))
+  pub some-steps : (c : List ℕ) × Bytes c × (readTicket c 1 (length (product c 1)) .number ≡ 0) × (answer c (write 1 17 250) .number ≡ 0) × (next c (write 1 17 250) ≢ c)
+      × (answer c (setMark 1 2) .number ≡ 0) × (next c (setMark 1 2) ≢ c) × (answer c (writeAll 1 (replicate 22 0)) .number ≡ 0)
+  -- "Published CRC values" (Annex A's three, and ISO 13239's check value); "an independent second program" is tests/second
+  pub crc-published : (crc (0 ∷ 0 ∷ 0 ∷ []) ≡ 0xC6CC) × (crc (0x0F ∷ 0xAA ∷ 0xFF ∷ []) ≡ 0xD1FC) × (crc (0x0A ∷ 0x12 ∷ 0x34 ∷ 0x56 ∷ []) ≡ 0xF62C)
+      × (crc (0x31 ∷ 0x32 ∷ 0x33 ∷ 0x34 ∷ 0x35 ∷ 0x36 ∷ 0x37 ∷ 0x38 ∷ 0x39 ∷ []) ≡ 0x906E)
+  -- "Field reading is proved once over place and width"
+  pub field-once : (l : List ℕ) (p w : ℕ) → (field l p w < 2 ^ w) × ((j : ℕ) → j < w → digit (field l p w) w j ≡ bit l (p + j)) × (Bytes l → store l p w (field l p w) ≡ l)
+      × ((v : ℕ) → p + w ≤ 8 * length l → v < 2 ^ w → field (store l p w v) p w ≡ v)
+
+pub record Demand3 : Type 0 where
+  -- "Take any number of jobs, each a list of field writes, record writes and marks on one product, no two jobs on the same product. Mix their steps in any order .."
+  pub mixed : (c : List ℕ) → Bytes c → (js : List (Job Step)) → Separate owner js → (m : List Step) → Mix (jobs.lists js) m → Serves c js m
+  -- "Refused steps count, and a job goes on after one": a refused step has its answer in the log, and the steps after it find the image as it was
+  pub goes-on : (c : List ℕ) (s : Step) (m : List Step) → answer c s .number ≢ 0
+      → (log cardSteps c (s ∷ m) ≡ (s, answer c s) ∷ log cardSteps c m) × (end cardSteps c (s ∷ m) ≡ end cardSteps c m)
+  -- "I could not tell the operator which tickets we had touched": flag j - 1 is 1 exactly where entry j's bits, sectors, mark or bytes differ; steps touch those they name
+  pub touched : (c d f : List ℕ) → touchedAnswer c d (length f) .number ≡ 0 → (length (touchedFlags c d f) ≡ e# c)
+      × ((j : ℕ) → 1 ≤ j → j ≤ e# c → (getD (touchedFlags c d f) (j - 1) 0 ≤ 1) × ((getD (touchedFlags c d f) (j - 1) 0 ≡ 1) ↔ Touched c d j))
+  pub touches : (c : List ℕ) (s : Step) → Bytes c → next c s ≢ c → Touched c (next c s) (owner s)
+  pub touched-named : (c : List ℕ) (j : ℕ) (m : List Step) → Bytes c → Touched c (end cardSteps c m) j → Named j c m
