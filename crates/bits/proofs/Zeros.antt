@@ -1,6 +1,6 @@
 -- Bytes that are all zero, and bits that are all zero: the number that they carry is 0, and only they carry it. Assumes nothing.
 use mathlib.Core.Path.{_≡_, refl, sym, _∙_}
-use Prim.Native.Nat.{ℕ, zero, suc, _+_, _-_, _*_, _/_, _%_, _^_, _<_}
+use Prim.Native.Nat.{ℕ, zero, suc, _+_, _-_, _/_, _%_, _^_, _<_}
 use mathlib.Core.List.{List}
 use native.Mathlib.Nat.{zero-div}
 use native.Mathlib.Omega.{arith}

@@ -284,9 +284,3 @@ pub chain-kept : (f g : ℕ → ℕ) (S l : ℕ) → ((x : ℕ) → Sector S x �
     → Sector S i → Ends S l (f l) m → Ends S l (g l) k → Chain f S i ss n → (r : ℕ) × Chain g S i ss r
 chain-kept f g S l same {k = k} {n = n} {ss = ss} s a b c =
     ⊎-elim (λ h. (k, chain-marked f g S l same s (ends-last f S l s a (c .leads) h) b c)) (λ h. (n, chain-apart f g S l same s h c)) (in-or-not l ss)
-
--- and a broken chain stays broken
-pub none-stays : (f g : ℕ → ℕ) (S l : ℕ) → ((x : ℕ) → Sector S x → x ≢ l → g x ≡ f x) → {i m k : ℕ} → Sector S i → Ends S l (f l) m → Ends S l (g l) k → NoChain f S i → NoChain g S i
-none-stays f g S l same s a b free ss n c =
-    let r = chain-kept g f S l (λ x t h. sym (same x t h)) s b a c in
-    free ss (r .0) (r .1)

@@ -7,12 +7,12 @@ use Prim.Native.Nat.{ℕ}
 use lib.ListN.{replicate}
 use borrow.Author.Tests.{eq-eqb, ne-eqb}
 use Rattle.bits.specs.Bits.{digit, bit, number, field}
-use Rattle.chains.specs.Chain.{Sector, Ends, Common, Chain, NoChain, lastOf}
+use Rattle.chains.specs.Chain.{Sector, Chain}
 use Rattle.chains.specs.Walk.{found, walk, walkOn, member, link}
 use Rattle.chains.specs.Packed.{elementIn}
 use Rattle.chains.specs.Products.{InNoChain}
 use Rattle.chains.specs.Marks.{replaced}
-use Rattle.chains.proofs.Laws.{chain-apart, chain-marked, none-stays, last-in, last-ends}
+use Rattle.chains.proofs.Laws.{chain-apart}
 
 pub replaced-here : (f : ℕ → ℕ) (l x : ℕ) → replaced f l x l ≡ x
 unfolding replaced
@@ -21,26 +21,6 @@ replaced-here f l x = rw (eq-eqb l l refl)
 pub replaced-other : (f : ℕ → ℕ) (l x i : ℕ) → i ≢ l → replaced f l x i ≡ f i
 unfolding replaced
 replaced-other f l x i h = rw (ne-eqb i l h)
-
--- the elements f, with x for that of the last sector of a chain, whose mark it makes k
-module _ (f : ℕ → ℕ) (S : ℕ) {i m : ℕ} {ss : List ℕ} (s : Sector S i) (c : Chain f S i ss m) (x k : ℕ) (e : Ends S (lastOf ss) x k) where
-  same : (y : ℕ) → Sector S y → y ≢ lastOf ss → replaced f (lastOf ss) x y ≡ f y
-  same y t h = replaced-other f (lastOf ss) x y h
-
-  ends : Ends S (lastOf ss) (replaced f (lastOf ss) x (lastOf ss)) k
-  ends = rw (replaced-here f (lastOf ss) x) e
-
-  -- that chain has the same sectors and the new mark
-  pub mark-sets : Chain (replaced f (lastOf ss) x) S i ss k
-  mark-sets = chain-marked f (replaced f (lastOf ss) x) S (lastOf ss) same s refl ends c
-
-  -- a chain that shares no sector with it is as it was
-  pub mark-spares : {j n : ℕ} {ts : List ℕ} → Sector S j → Chain f S j ts n → (Common ss ts → ⊥) → Chain (replaced f (lastOf ss) x) S j ts n
-  mark-spares t d apart = chain-apart f (replaced f (lastOf ss) x) S (lastOf ss) same t (λ h. apart (lastOf ss, last-in f S (c .leads), h)) d
-
-  -- and a broken chain stays broken
-  pub mark-mends-none : {j : ℕ} → Sector S j → NoChain f S j → NoChain (replaced f (lastOf ss) x) S j
-  mark-mends-none t free = none-stays f (replaced f (lastOf ss) x) S (lastOf ss) same t (last-ends f S (c .leads)) ends free
 
 -- an element of a sector in no chain may be anything: every product's chain is as it was
 pub carried : (P : ℕ → Type 0) (f : ℕ → ℕ) (S l x : ℕ) → InNoChain P f S l → {j m : ℕ} {ss : List ℕ} → P j → Sector S j → Chain f S j ss m → Chain (replaced f l x) S j ss m

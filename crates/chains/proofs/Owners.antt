@@ -2,7 +2,7 @@
 -- from a lower entry leads to an end, so that a walk that reaches it does; and a walk that reaches a sector of its own comes back.
 -- Assumes nothing.
 use mathlib.Core.Path.{_≡_, refl, sym, ap, _∙_}
-use mathlib.Core.Logic.{_≢_, _↔_, inl, inr, ⊎-elim}
+use mathlib.Core.Logic.{_≢_, inl, inr, ⊎-elim}
 use mathlib.Core.Bool.{Bool, true, false}
 use mathlib.Core.List.{List, [], _∷_}
 use Prim.Native.Nat.{ℕ, zero, suc, _+_, _-_, _≤_, _<_}
@@ -14,7 +14,7 @@ use lib.Seq.{getD-set-same, getD-set-other}
 use borrow.Author.Tests.{eq-eqb, ne-eqb}
 use Rattle.chains.specs.Chain.{Sector, Names, Leads, last, then, In, Common, Distinct, Chain, NoChain}
 use Rattle.chains.specs.Breaks.{Fault, Bad}
-use Rattle.chains.specs.Walk.{Link, end, to, bad, link}
+use Rattle.chains.specs.Walk.{Link, link}
 use Rattle.chains.specs.Products.{brokenAt}
 use Rattle.chains.specs.Owners.{Followed, stop, again, byOwner, byLink, follow}
 use Rattle.chains.proofs.Laws.{View, v-end, v-to, v-bad, view, ends-or-names, ends-or-bad, names-or-bad, no-return, leads-distinct, first-in}

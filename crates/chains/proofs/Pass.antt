@@ -3,17 +3,17 @@
 use mathlib.Core.Path.{_≡_, refl, sym, ap, _∙_}
 use mathlib.Core.Logic.{_≢_}
 use mathlib.Core.Bool.{Bool, true, false, true≢false}
-use mathlib.Core.List.{List, [], _∷_, _++_}
-use Prim.Native.Nat.{ℕ, zero, suc, _+_, _-_, _/_, _≤_, _<_}
+use mathlib.Core.List.{List, _++_}
+use Prim.Native.Nat.{ℕ, zero, suc, _+_, _-_, _≤_, _<_}
 use native.Mathlib.Omega.{arith}
 use native.Mathlib.Decide.{ℕ-discrete}
-use native.Mathlib.Numerals.{add-one, sub-one}
+use native.Mathlib.Numerals.{sub-one}
 use borrow.Author.Count.{below-more}
 use lib.ListN.{length, getD, set, replicate, length-append, length-set}
-use Rattle.chains.specs.Chain.{Sector, Leads, lastOf, Shares}
+use Rattle.chains.specs.Chain.{Sector, Leads, lastOf}
 use Rattle.chains.specs.Walk.{Walk, found, broken, walk}
 use Rattle.chains.specs.Packed.{lastLeft, lastTold, leftTold, countTold}
-use Rattle.chains.specs.Products.{sectorsOf, chainAt, isBroken, brokenAt, sharesAt, lastIn, lastAt, countAt, ifProduct, allSectors}
+use Rattle.chains.specs.Products.{sectorsOf, chainAt, isBroken, brokenAt, sharesAt, lastAt, countAt, ifProduct, allSectors}
 use Rattle.chains.proofs.Laws.{walk-finds, walk-leads, walk-short, leads-short, leads-sectors, last-in}
 use Rattle.chains.proofs.Told.{last-told, count-told, left-told}
 use Rattle.chains.proofs.ProductLaws.{Tested, so-shares, shares-meets, meets-shares, no-product, last-small}

@@ -4,3 +4,4 @@ pub mod Lent
 pub mod Made
 pub mod Stepped
 pub mod Read
+pub mod Obeyed

@@ -1,6 +1,6 @@
 -- What the test program's own commands leave, case by case. Assumes nothing.
-use mathlib.Core.Path.{_≡_, refl, sym, _∙_}
-use mathlib.Core.Bool.{Bool, true, false}
+use mathlib.Core.Path.{_≡_, refl}
+use mathlib.Core.Bool.{true, false}
 use mathlib.Core.List.{List, _++_}
 use Prim.Native.Nat.{ℕ, _+_, _-_, _≤_, _<_, min}
 use native.Mathlib.Omega.{arith}
@@ -15,7 +15,7 @@ use Rattle.text.specs.Numbers.{numberOf}
 use Rattle.console.specs.declared.State.{State}
 use Rattle.console.specs.declared.commands.Make.{Make}
 use Rattle.console.specs.declared.commands.Make.the-variants.{Zeros, Keep, Touched, At}
-use Rattle.console.specs.Makes.{readInto, filledBy, overwritten, zerosIn, zerosState, sized, keptState, keptIn, placeOf, placedIn, imageMade, keptMade, stateMade}
+use Rattle.console.specs.Makes.{readInto, filledBy, overwritten, zerosIn, zerosState, sized, keptState, keptIn, placeOf, sizeIn, placedIn, imageMade, keptMade, stateMade}
 
 module _ (w b : List ℕ) where
   pub fills-not : (n : ℕ) → n ≡ hexCount w → (n ≡ length b → ⊥) → (false ≡ eqb (hexCount w) (length b)) × (b ≡ filledBy w b)
@@ -72,7 +72,7 @@ keep-made b k x s m n e f h r =
     let t = take-length (take n b) in
     rw (← e, ← f, r, z, t, q) (refl, refl)
 
-pub place-made : (l b x : List ℕ) (s : State) (e a n : ℕ) → e ≡ wordEnd l 0 → a ≡ afterBlank l e → n ≡ min (s .image) (length b) → x ≡ overwritten (placeOf (numberOf (midOf 0 (e - 0) l))) (midOf a (length l - a) l) (midOf 0 (n - 0) b) → (s ≡ s) × (x ++ postOf 0 (n - 0) b ≡ placedIn l b s)
+pub place-made : (l b x : List ℕ) (s : State) (e a n : ℕ) → e ≡ wordEnd l 0 → a ≡ afterBlank l e → n ≡ sizeIn b s → x ≡ overwritten (placeOf (numberOf (midOf 0 (e - 0) l))) (midOf a (length l - a) l) (midOf 0 (n - 0) b) → (s ≡ s) × (x ++ postOf 0 (n - 0) b ≡ placedIn l b s)
 unfolding placedIn
 place-made l b x s e a n ke ka kn r =
     let y : e - 0 ≡ e = omega arith in

@@ -1,5 +1,5 @@
 -- The image after a command that asks for a step. Assumes nothing.
-use mathlib.Core.Path.{_≡_, refl, sym, ap, _∙_}
+use mathlib.Core.Path.{_≡_}
 use mathlib.Core.List.{List}
 use Prim.Native.Nat.{ℕ}
 use Rattle.steps.specs.Step.{write, writeAll, setMark}

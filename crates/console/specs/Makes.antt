@@ -33,14 +33,18 @@ overwritten p w c =
     (cond (ltb (length c - hexCount w) p) c
     (take p c ++ (readInto w (take (hexCount w) (drop p c)) ++ drop (hexCount w) (drop p c))))
 
--- the buffer b after a line's place and bytes, which go into the image at its front
+-- how many bytes of the buffer b are the image, which stands at its front
+abbrev pub sizeIn : List ℕ → State → ℕ
+sizeIn b s = min (s .image) (length b)
+
+-- the buffer b after a line's place and bytes, which go into the image
 unfoldable pub placedIn : List ℕ → List ℕ → State → List ℕ
 placedIn l b s =
     overwritten
     (placeOf (numberOf (take (wordEnd l 0) l)))
     (drop (afterBlank l (wordEnd l 0)) l)
-    (take (min (s .image) (length b)) b)
-    ++ drop (min (s .image) (length b)) b
+    (take (sizeIn b s) b)
+    ++ drop (sizeIn b s) b
 
 -- so many zeros, where the buffer b of the image has room for one byte more
 unfoldable pub zerosIn : ℕ → List ℕ → List ℕ

@@ -18,7 +18,10 @@ use text::feed;
 use text::prints;
 use text::words;
 use text::words::MOST;
-ghost use Prim.Native.Nat.{_<_};
+ghost use mathlib.Core.Path.{_≡_};
+ghost use mathlib.Core.Bool.{cond};
+ghost use Prim.Native.Nat.{_-_, _<_};
+ghost use Rattle.console.specs.Obeys.{held, afterCommand, LentBy, afterLine, LentByLine, Answered, Ran};
 
 // The largest image; `io::large_buffer` has room for one byte more.
 const LARGEST: usize = 65535;
@@ -52,7 +55,9 @@ pub fn trial() {
     run(&mut image, 0, true);
 }
 
-fn run(image: &mut [u8], size: usize, all: bool) {
+fn run(image: &mut [u8], size: usize, all: bool)
+    ensures { λ _. ⌜ Ran all size (now (image .entry)) (now (image .exit)) ⌝ }
+{
     let mut input = feed::room();
     let mut kept = io::large_buffer();
     let mut buffer = io::large_buffer();
@@ -65,37 +70,40 @@ fn run(image: &mut [u8], size: usize, all: bool) {
 }
 
 // Answers every line of standard input.
-fn answers(input: &mut [u8], image: &mut [u8], kept: &mut [u8], buffer: &mut [u8], start: State) {
+fn answers(
+    input: &mut [u8],
+    image: &mut [u8],
+    kept: &mut [u8],
+    buffer: &mut [u8],
+    start: State,
+) -> State
+    ensures { λ r. ⌜ Answered (now (input .entry)) (held (now (image .entry)) (now (kept .entry)) start) (now (input .exit)) (held (now (image .exit)) (now (kept .exit)) r) ⌝ }
+{
     let mut s = start;
     let mut f = feed::none();
     let mut turns = u64::MAX;
     while 0 < turns {
         f = feed::next(input, f);
-        s = answer(feed::line(input, f), f.given, image, kept, buffer, s);
+        if f.given {
+            s = answer(feed::line(input, f), image, kept, buffer, s);
+        }
         turns = fewer(turns, f.ended);
     }
+    s
 }
 
 // The turns that are left after one: none where the input has ended.
 fn fewer(turns: u64, ended: bool) -> u64
     requires { ⌜ 0 < turns ⌝ }
-    ensures { λ r. ⌜ r < turns ⌝ }
+    ensures { λ r. ⌜ (r ≡ cond ended 0 (turns - 1)) × (r < turns) ⌝ }
 {
     if ended { 0 } else { turns - 1 }
 }
 
-// Answers a line, if one is given.
-fn answer(
-    line: &[u8],
-    given: bool,
-    image: &mut [u8],
-    kept: &mut [u8],
-    buffer: &mut [u8],
-    s: State,
-) -> State {
-    if !given {
-        return s;
-    }
+// Answers a line.
+fn answer(line: &[u8], image: &mut [u8], kept: &mut [u8], buffer: &mut [u8], s: State) -> State
+    ensures { λ r. ⌜ (held (now (image .exit)) (now (kept .exit)) r ≡ afterLine (now (line .entry)) (held (now (image .entry)) (now (kept .entry)) s)) × LentByLine (now (line .entry)) (held (now (image .entry)) (now (kept .entry)) s) (now (buffer .entry)) (now (buffer .exit)) ⌝ }
+{
     let end = words::first(line);
     let start = words::after(line, end);
     let read = commands::of_line(line, s.all);
@@ -123,7 +131,9 @@ fn obey(
     kept: &mut [u8],
     buffer: &mut [u8],
     s: State,
-) -> State {
+) -> State
+    ensures { λ r. ⌜ (held (now (image .exit)) (now (kept .exit)) r ≡ afterCommand asked (now (list .entry)) (now (rest .entry)) (held (now (image .entry)) (now (kept .entry)) s)) × LentBy asked (held (now (image .entry)) (now (kept .entry)) s) (now (buffer .entry)) (now (buffer .exit)) ⌝ }
+{
     let n = words::least(s.image, image.len());
     match asked {
         Command::Look(look) => looks::look(look, &image[0..n]),

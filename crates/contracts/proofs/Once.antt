@@ -1,7 +1,6 @@
 -- No published call asks anything first, and none leaves a choice: each contract is an equation, so that two results, and two states of a lent buffer, that
 -- meet it are equal. `rest` hands back a part of a lent buffer: of that part the bytes and the place. Assumes nothing.
 use mathlib.Core.Path.{_≡_, sym, _∙_}
-use mathlib.Core.List.{List}
 use borrow.Fn.Kinds.{Dens, resT, endedOf}
 use contract.Lifetimes.{Lfts}
 use denote.Triple.Clauses.{AtExit}

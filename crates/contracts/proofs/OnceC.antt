@@ -1,6 +1,5 @@
 -- The same of the functions for C. Assumes nothing.
-use mathlib.Core.Path.{_≡_, sym, _∙_}
-use mathlib.Core.List.{List}
+use mathlib.Core.Path.{sym, _∙_}
 use Rattle.contracts.proofs.Fixed.{Once, Lent}
 use Rattle.capi.proofs.card_check.Reads as card-check
 use Rattle.capi.proofs.card_check.Kinds as card-check-kinds

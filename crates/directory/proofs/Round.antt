@@ -1,5 +1,5 @@
 -- An entry, and the directory's two ends: the law of records that are all of their bytes, at three lists. Assumes nothing.
-use mathlib.Core.Path.{_≡_, sym, _∙_}
+use mathlib.Core.Path.{_≡_}
 use mathlib.Core.Logic.{_↔_}
 use mathlib.Core.List.{List}
 use Prim.Native.Nat.{ℕ}

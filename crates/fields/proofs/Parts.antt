@@ -1,5 +1,5 @@
 -- A list stored into a part of the bytes is the list, counted from the part's first bit, stored into all of them: each store is so. Assumes nothing.
-use mathlib.Core.Path.{_≡_, refl, sym, ap, ap₂, _∙_}
+use mathlib.Core.Path.{_≡_, refl, sym, ap, _∙_}
 use mathlib.Core.List.{List, [], _∷_, _++_}
 use Prim.Native.Nat.{ℕ, _+_, _*_, _≤_}
 use native.Mathlib.Omega.{arith}
@@ -7,10 +7,10 @@ use lib.Dec.{T}
 use lib.ListN.{length, take, drop, length-drop, take-append-drop}
 use lib.Seq.{take-at, drop-at, length-take-le}
 use Rattle.bits.specs.Bits.{Bytes, store}
-use Rattle.bits.proofs.Laws.{length-store, bytes-store, store-part, field-cong, bit-append-left, store-append-left}
+use Rattle.bits.proofs.Laws.{length-store, bytes-store, store-part, store-append-left}
 use Rattle.fields.specs.declared.Span.{Span}
 use Rattle.fields.specs.Ends.{endToEnd}
-use Rattle.fields.specs.Fields.{fields, stores, shifted}
+use Rattle.fields.specs.Fields.{stores, shifted}
 use Rattle.fields.specs.Together.{Fit}
 use Rattle.fields.proofs.Laws.{length-stores, bytes-stores, fields-stores, stores-fields}
 use Rattle.fields.proofs.Only.{Inside}
@@ -63,14 +63,6 @@ pub part-stores : (l : List ℕ) (a n : ℕ) (ps : List Span) (vs : List ℕ) �
 part-stores l a n ps vs b h k =
     rw (← stores-part l a n ps vs b h k)
     (part-around l a n (stores (part l a n) ps vs) h (length-stores (part l a n) ps vs ∙ length-take-le n (drop a l) (omega (arith, length-drop a l))))
-
--- a list that ends within the first of two joined parts is read from it alone
-pub fields-left : (x y : List ℕ) (ps : List Span) → Inside 0 (8 * length x) ps → fields (x ++ y) ps ≡ fields x ps
-unfolding fields
-fields-left x y [] k = refl
-fields-left x y (p ∷ ps) k =
-    ap₂ (λ (u : ℕ) (us : List ℕ). u ∷ us)
-    (field-cong (x ++ y) x (p .0) (p .0) (p .1) (λ i u. bit-append-left x y (p .0 + i) (omega (arith, k .0)))) (fields-left x y ps (k .1))
 
 -- values that are stored already are stored again to no effect
 pub stores-again : (a : ℕ) (ps : List Span) (e : ℕ) → T (endToEnd a ps e) → (l vs : List ℕ) → Bytes l → e ≤ 8 * length l → Fit ps vs

@@ -4,7 +4,7 @@ use mathlib.Core.Path.{_≡_, refl, sym, ap, _∙_}
 use mathlib.Core.Logic.{_↔_, _≢_}
 use mathlib.Core.Bool.{Bool, true, false}
 use mathlib.Core.List.{List}
-use Prim.Native.Nat.{ℕ, zero, suc, _*_}
+use Prim.Native.Nat.{ℕ, _*_}
 use native.Mathlib.Omega.{arith}
 use lib.ListN.{length, replicate, length-replicate}
 use lib.Dec.{T}
@@ -12,6 +12,8 @@ use Rattle.bits.specs.Bits.{Bytes}
 use Rattle.bits.proofs.Zeros.{bytes-zeros}
 use Rattle.rules.specs.Claim.{Means, Answers}
 use Rattle.rules.specs.First.{holds, first}
+use Rattle.rules.specs.Answer.{ifDone}
+use Rattle.rules.proofs.AnswerLaws.{refused-stays}
 use Rattle.rules.proofs.ClaimLaws.{holds-means, means-holds}
 use Rattle.rules.proofs.First.{answers-exactly}
 use Rattle.fields.specs.declared.Layout.{Layout}
@@ -19,7 +21,7 @@ use Rattle.fields.specs.declared.Span.{Span}
 use Rattle.fields.specs.Lists.{listOf}
 use Rattle.fields.specs.Ends.{endToEnd}
 use Rattle.fields.specs.Fields.{fields, stores, fit, packRules}
-use Rattle.fields.specs.Packed.{storesIf, packNumber, packed}
+use Rattle.fields.specs.Packed.{packNumber, packed}
 use Rattle.fields.proofs.Laws.{fields-stores, stores-whole, fit-fields}
 
 -- every value fits: 0; one does not: 26
@@ -50,7 +52,7 @@ packed-exactly k vs = (
   ((λ e m. let z = taken-fit k vs m in omega arith), refused-wide k vs),
 )
 
-stored : (n : ℕ) (l : List ℕ) (ps : List Span) (vs : List ℕ) → n ≡ 0 → storesIf n l ps vs ≡ stores l ps vs
+stored : (n : ℕ) (l : List ℕ) (ps : List Span) (vs : List ℕ) → n ≡ 0 → ifDone n (stores l ps vs) l ≡ stores l ps vs
 stored n l ps vs e = rw e
 
 -- the number, as an encoder gives it: with entry 0
@@ -60,11 +62,7 @@ pack-exactly k vs = answers-exactly (packRules k vs) (omega arith, tt)
 
 -- refused, the bytes are zeros
 pub packed-zeros : (k : Layout) (n : ℕ) (vs : List ℕ) → packNumber k vs ≢ 0 → packed k n vs ≡ replicate n 0
-packed-zeros k n vs h = go (packNumber k vs) h
-  where
-    go : (m : ℕ) → m ≢ 0 → storesIf m (replicate n 0) (listOf k) vs ≡ replicate n 0
-    go zero h = absurd (h refl)
-    go (suc m) h = refl
+packed-zeros k n vs h = refused-stays (packNumber k vs) (stores (replicate n 0) (listOf k) vs) (replicate n 0) h
 
 -- what is read fits
 pub fields-fit : (l : List ℕ) (ps : List Span) → Means (fit ps (fields l ps))

@@ -1,11 +1,11 @@
 -- An annex: values by a list of places, judged and stored as the machine does. Assumes nothing.
-use Prim.Native.Nat.{ℕ, zero, suc}
+use Prim.Native.Nat.{ℕ, suc}
 use mathlib.Core.Bool.{cond}
 use mathlib.Core.List.{List, [], _∷_}
 use lib.Dec.{ltb}
 use lib.ListN.{replicate}
 use Rattle.rules.specs.First.{first}
-use Rattle.fields.specs.declared.Span.{Span}
+use Rattle.rules.specs.Answer.{ifDone}
 use Rattle.fields.specs.declared.Layout.{Layout}
 use Rattle.fields.specs.Lists.{listOf}
 use Rattle.fields.specs.Fields.{stores, packRules}
@@ -22,15 +22,10 @@ firstAbove ms vs = above ms vs 0
 unfoldable pub packNumber : Layout → List ℕ → ℕ
 packNumber k vs = first (packRules k vs)
 
--- l, with the values stored where the number is 0
-abbrev pub storesIf : ℕ → List ℕ → List Span → List ℕ → List ℕ
-storesIf zero l ps vs = stores l ps vs
-storesIf (suc n) l ps vs = l
-
 -- the n bytes that hold the values; zeros where one is too wide
 abbrev pub packed : Layout → ℕ → List ℕ → List ℕ
-packed k n vs = storesIf (packNumber k vs) (replicate n 0) (listOf k) vs
+packed k n vs = ifDone (packNumber k vs) (stores (replicate n 0) (listOf k) vs) (replicate n 0)
 
 -- the values in the bytes l, or l as it was
 abbrev pub packIn : Layout → List ℕ → List ℕ → List ℕ
-packIn k vs l = storesIf (packNumber k vs) l (listOf k) vs
+packIn k vs l = ifDone (packNumber k vs) (stores l (listOf k) vs) l

@@ -10,7 +10,6 @@ use lib.ListN.{length, take, drop, length-drop, length-append}
 use lib.Seq.{length-take-le, take-at}
 use Rattle.bits.specs.Bits.{Bytes, field}
 use Rattle.bits.proofs.Laws.{field-cong, field-part, bit-append-left, bytes-append, bytes-take, bytes-drop}
-use Rattle.fields.specs.Fields.{fields}
 use Rattle.chains.specs.Chain.{Sector, Leads, last, In}
 use Rattle.chains.specs.Chain as C
 use Rattle.chains.proofs.Laws.{chain-sectors}

@@ -5,9 +5,9 @@ use mathlib.Core.List.{List, [], _∷_, _++_, map, append-nil}
 use mathlib.Core.Bool.{Bool, true, false, false≢true}
 use Prim.Native.Nat.{ℕ}
 use lib.Dec.{T, eqb, eqb→eq, eqb-refl}
-use Rattle.mixing.specs.Run.{Machine, end, log}
+use Rattle.mixing.specs.Run.{Machine, log}
 use Rattle.mixing.specs.Alike.{Commute, stepsOf, Other, Alike}
-use Rattle.mixing.specs.Mix.{Every, EachTwo, keep, concat, Mix, Swaps, same, swap, after, then, Reordered, Job, lists, Separate, entriesOf}
+use Rattle.mixing.specs.Mix.{Every, EachTwo, concat, Mix, Swaps, same, swap, after, then, Reordered, Job, lists, Separate, entriesOf}
 use Rattle.mixing.proofs.Trace.{Apart, every-map, every-both, wider, keeps, end-swaps, log-swaps, log-away, mix-swaps, mix-whole}
 use Rattle.mixing.proofs.Parts.{keep-yes, keep-no, keep-none, keep-every, keep-all, Clear, same-parts}
 

@@ -1,8 +1,8 @@
 -- Lists of steps of which every part is the same are swaps of each other. A part is what touches one thing k; a step may touch many things.
-use mathlib.Core.Path.{_≡_, refl, sym, _∙_, ap, subst}
-use mathlib.Core.List.{List, [], _∷_, _++_, nil≢cons, cons≢nil, head-eq-of-cons-eq, tail-eq-of-cons-eq}
+use mathlib.Core.Path.{_≡_, refl, sym, _∙_, ap}
+use mathlib.Core.List.{List, [], _∷_, _++_, nil≢cons, head-eq-of-cons-eq, tail-eq-of-cons-eq}
 use mathlib.Core.Bool.{Bool, true, false, false≢true}
-use Rattle.mixing.specs.Mix.{Every, keep, Swaps, same, swap, after, then}
+use Rattle.mixing.specs.Mix.{Every, keep, Swaps, same, after, then}
 use Rattle.mixing.specs.Run.{Machine, end, log}
 use Rattle.mixing.specs.Alike.{Commute}
 use Rattle.mixing.proofs.Trace.{past, keeps, end-swaps, log-swaps}

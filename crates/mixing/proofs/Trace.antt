@@ -1,9 +1,7 @@
 -- Swapping independent neighbours changes no answer and not the end. Mixes of the same lists are swaps of each other.
-use mathlib.Core.Path.{_≡_, refl, sym, _∙_, ap, subst, subst₂}
-use mathlib.Core.Logic.{_≢_}
+use mathlib.Core.Path.{_≡_, refl, _∙_, ap}
 use mathlib.Core.List.{List, [], _∷_, _++_, map}
 use mathlib.Core.Bool.{Bool, true, false}
-use Prim.Native.Nat.{ℕ}
 use Rattle.mixing.specs.Run.{Machine, end, log}
 use Rattle.mixing.specs.Alike.{Commute}
 use Rattle.mixing.specs.Mix.{Every, EachTwo, keep, concat, Turn, here, there, Mix, done, turn, Swaps, same, swap, after, then, Reordered}

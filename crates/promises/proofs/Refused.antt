@@ -17,7 +17,7 @@ use Rattle.reads.specs.Card.{readShell, readDirectory, readTable}
 use Rattle.reads.specs.Entry.{readEntry, readChain}
 use Rattle.reads.specs.Ticket.{readTicket, bufferAfter, fillOf, restAt}
 use Rattle.reads.proofs.Exactly.{entry-exactly, ticket-exactly}
-use Rattle.reads.proofs.Given.{value-refused, values-refused, lent-refused}
+use Rattle.reads.proofs.Given.{value-refused, values-refused}
 use Rattle.reads.proofs.Agree.{fill-exactly, empty-refused}
 use Rattle.steps.proofs.Exactly.{answer-exactly}
 use Rattle.steps.proofs.Acts.{refused-same}
@@ -38,7 +38,7 @@ demand1 = record {
     λ h. (values-refused _ 3 _ h, values-refused _ 22 _ h, value-refused _ _ h, value-refused _ _ h, value-refused _ _ h),
   );
   fill = λ c j room. (fill-exactly c j room, value-refused _ _);
-  buffer = λ c j b. lent-refused _ _ b;
+  buffer = λ c j b. refused-stays _ _ b;
   rest-refused = λ c j room h. (empty-refused c j room .1 h, value-refused _ _ h);
   step = λ c s. (answer-exactly c s, λ h. refused-same c s (omega arith));
   touched = λ c d f. (touched-exactly c d (length f), flags-stay c d f);

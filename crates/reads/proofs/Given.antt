@@ -1,4 +1,4 @@
--- What a refusal holds: its number is not 0, so every value is 0 and a lent buffer stays. Assumes nothing.
+-- What a refusal holds: its number is not 0, so every value is 0. Assumes nothing.
 use mathlib.Core.Path.{_≡_, refl}
 use mathlib.Core.Logic.{_≢_}
 use mathlib.Core.List.{List}
@@ -6,23 +6,19 @@ use Prim.Native.Nat.{ℕ, zero, suc}
 use native.Mathlib.Omega.{arith}
 use lib.ListN.{replicate}
 use Rattle.rules.specs.First.{first}
+use Rattle.rules.proofs.AnswerLaws.{refused-stays}
 use Rattle.rules.specs.Lowest.{lowest}
 use Rattle.image.specs.Image.{e#}
 use Rattle.image.specs.Rules.{rules}
 use Rattle.image.specs.Verdict.{brokenAt, sharesAt, judged, verdict}
-use Rattle.reads.specs.Asked.{orZero, orZeros, lent}
+use Rattle.reads.specs.Asked.{orZero, orZeros}
 
 pub value-refused : (n v : ℕ) → n ≢ 0 → orZero n v ≡ 0
 value-refused zero v h = absurd (h refl)
 value-refused (suc n) v h = refl
 
 pub values-refused : (n k : ℕ) (vs : List ℕ) → n ≢ 0 → orZeros n k vs ≡ replicate k 0
-values-refused zero k vs h = absurd (h refl)
-values-refused (suc n) k vs h = refl
-
-pub lent-refused : (n : ℕ) (l b : List ℕ) → n ≢ 0 → lent n l b ≡ b
-lent-refused zero l b h = absurd (h refl)
-lent-refused (suc n) l b h = refl
+values-refused n k vs h = refused-stays n vs (replicate k 0) h
 
 -- an image that is not refused names no entry
 pub none-named : (c : List ℕ) → verdict c .number ≡ 0 → verdict c .entry ≡ 0

@@ -1,6 +1,6 @@
 -- An annex: what the reads of the whole card answer: shell, directory, chain table. Assumes nothing.
-use Prim.Native.Nat.{ℕ, zero, suc, _+_, _-_}
-use mathlib.Core.List.{List, [], _∷_, _++_}
+use Prim.Native.Nat.{ℕ, zero, suc, _-_}
+use mathlib.Core.List.{List, [], _∷_}
 use lib.ListN.{replicate}
 use Rattle.image.specs.Image.{shellValues, S, element}
 use Rattle.image.specs.Verdict.{verdict}

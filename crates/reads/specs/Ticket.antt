@@ -10,7 +10,8 @@ use Rattle.image.specs.Image.{sectors, mark, product}
 use Rattle.rules.specs.declared.Answer.{Answer}
 use Rattle.image.specs.Seen.{asked}
 use Rattle.reads.specs.Values.{ticketRules, timeIn, ticketEnd, extent}
-use Rattle.reads.specs.Asked.{orZero, orZeros, lent}
+use Rattle.rules.specs.Answer.{ifDone}
+use Rattle.reads.specs.Asked.{orZero, orZeros, over}
 use Rattle.reads.specs.declared.TicketRead.{TicketRead}
 use Rattle.reads.specs.declared.Filled.{Filled}
 
@@ -32,7 +33,7 @@ readTicket c j room =
 
 -- "Only the first (sectors × B) bytes of the buffer change": the buffer b after either call
 unfoldable pub bufferAfter : List ℕ → ℕ → List ℕ → List ℕ
-bufferAfter c j b = lent (ticketRefusal c j (length b) .number) (product c j) b
+bufferAfter c j b = ifDone (ticketRefusal c j (length b) .number) (over (product c j) b) b
 
 unfoldable pub fillOf : List ℕ → ℕ → ℕ → Filled
 fillOf c j room =

@@ -8,7 +8,7 @@ use native.Mathlib.Omega.{arith}
 use native.Mathlib.Decide.{decLt}
 use lib.Dec.{eqb}
 use borrow.Author.Tests.{eqb-true, eq-eqb, leb-true, le-leb, not-true}
-use Rattle.rules.specs.Claim.{Claim, _≡?_, _≤?_, _and_, every, Means, Rule, rule, Kept, Fails, here, later}
+use Rattle.rules.specs.Claim.{Claim, _≡?_, _≤?_, _and_, every, Means, Rule, Kept, Fails, here, later}
 use Rattle.rules.specs.First.{all, holds, ifKept, first}
 use Rattle.rules.specs.Rows.{rowsBefore, rowOf, FailsRow}
 

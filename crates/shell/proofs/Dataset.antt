@@ -1,7 +1,7 @@
 -- The dataset as the code makes it: zeros, the values into them, and SECR after them. Assumes nothing.
-use mathlib.Core.Path.{_≡_, refl, ap, _∙_}
+use mathlib.Core.Path.{_≡_, refl, sym, ap, _∙_}
 use mathlib.Core.List.{List, [], _∷_, _++_}
-use Prim.Native.Nat.{ℕ, zero, suc, _+_, _-_, _/_, _%_}
+use Prim.Native.Nat.{ℕ, suc, _+_, _-_, _/_, _%_}
 use native.Mathlib.Omega.{arith}
 use lib.ListN.{length, take, drop, set, replicate, length-replicate}
 use lib.Seq.{take-at}
@@ -10,7 +10,8 @@ use Rattle.fields.specs.Fields.{stores}
 use Rattle.fields.specs.Lists as lists
 use Rattle.fields.proofs.Laws.{length-stores}
 use Rattle.shell.specs.Shell.{datasetOf, bodyOf, encodedShell}
-use Rattle.rules.specs.Answer.{says, ifDone}
+use Rattle.rules.specs.Answer.{says}
+use Rattle.rules.proofs.AnswerLaws.{refused-stays}
 use Rattle.shell.specs.Encode.{encodeNumber, encodeIn}
 
 pub body-is : (vs : List ℕ) {s out : List ℕ} {n : ℕ} → s ≡ replicate n 0 → n ≡ datasetOf vs - 2 → out ≡ stores s lists.shell vs → out ≡ bodyOf vs
@@ -45,10 +46,6 @@ pub done : (vs l : List ℕ) {z : List ℕ} → encodeNumber vs (length l) ≡ 0
     → (says 0 0 ≡ says (encodeNumber vs (length l)) 0) × (z ++ drop (datasetOf vs) l ≡ encodeIn vs l)
 done vs l e d = rw (e, d) (refl, refl)
 
-kept : (n : ℕ) (new old : List ℕ) → (n ≡ 0 → ⊥) → old ≡ ifDone n new old
-kept zero new old h = absurd (h refl)
-kept (suc n) new old h = refl
-
 pub refused : (vs l : List ℕ) {n : ℕ} → n ≡ encodeNumber vs (length l) → (n ≡ 0 → ⊥)
     → (says n 0 ≡ says (encodeNumber vs (length l)) 0) × (l ≡ encodeIn vs l)
-refused vs l {n} e h = rw (← e) (refl, kept n (encodedShell vs ++ drop (datasetOf vs) l) l h)
+refused vs l {n} e h = rw (← e) (refl, sym (refused-stays n (encodedShell vs ++ drop (datasetOf vs) l) l h))

@@ -6,7 +6,7 @@ use mathlib.Core.List.{List, [], _∷_, _++_}
 use Prim.Native.Nat.{ℕ, _+_, _-_, _*_, _/_, _%_, _≤_, _<_}
 use native.Mathlib.Omega.{arith}
 use lib.ListN.{length, getD, take, drop, replicate, length-append, length-take, length-drop, length-replicate, take-append-drop}
-use lib.Seq.{take-at, drop-at, length-take-le, getD-drop, getD-append-add}
+use lib.Seq.{take-at, length-take-le, getD-drop, getD-append-add}
 use Rattle.bits.specs.Bits.{Bytes, bit, field}
 use Rattle.bits.proofs.Laws.{bit-part, bit-append-left, field-next, field-zero, bytes-take, bit-past, lt-or-le}
 use Rattle.bits.proofs.Zeros.{bytes-zeros, bit-zeros, field-of-zeros, zeros-of-field}
@@ -109,9 +109,6 @@ module _ (vs l : List ℕ) (k : encodeNumber vs (length l) ≡ 0) where
   -- the buffer holds the dataset, and later bytes stay
   pub encoded : encodeIn vs l ≡ encodedShell vs ++ drop (datasetOf vs) l
   encoded = rw k
-
-  pub later-stays : drop (datasetOf vs) (encodeIn vs l) ≡ drop (datasetOf vs) l
-  later-stays = ap (drop (datasetOf vs)) encoded ∙ drop-at (encodedShell vs) (drop (datasetOf vs) l) (datasetOf vs) (length-dataset vs (taken vs (length l) k .enough))
 
   -- decoding what was encoded gives the values back
   pub decode-encode : length vs ≡ 16 → decodeOf (take 20 (encodeIn vs l)) ≡ record { values = vs }

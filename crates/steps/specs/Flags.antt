@@ -6,6 +6,7 @@ use lib.Dec.{eqb}
 use lib.ListN.{length}
 use Rattle.image.specs.Image.{e#, sectors, mark, product}
 use Rattle.rules.specs.First.{first}
+use Rattle.rules.specs.Answer.{ifDone}
 use Rattle.rules.specs.declared.Answer.{Answer}
 use Rattle.image.specs.Verdict.{isProduct, verdict}
 use Rattle.steps.specs.Touched.{forty, compareRules}
@@ -48,10 +49,6 @@ orRefusal v w = unlessNumber (v .number) v w
 unfoldable pub touchedAnswer : List ℕ → List ℕ → ℕ → Answer
 touchedAnswer c d n = orRefusal (verdict c) (orRefusal (verdict d) (record { number = first (compareRules c d n); entry = 0 }))
 
-abbrev pub flagsIf : ℕ → List ℕ → List ℕ → List ℕ
-flagsIf zero new old = new
-flagsIf (suc n) new old = old
-
 -- the flags after the call, f before it: refused, as they were
 unfoldable pub touchedFlags : List ℕ → List ℕ → List ℕ → List ℕ
-touchedFlags c d f = flagsIf (touchedAnswer c d (length f) .number) (flagsTo c d (e# c)) f
+touchedFlags c d f = ifDone (touchedAnswer c d (length f) .number) (flagsTo c d (e# c)) f

@@ -1,11 +1,12 @@
 -- The table's buffer and the decoder's answer, taken and refused. Assumes nothing.
-use mathlib.Core.Path.{_≡_, refl}
+use mathlib.Core.Path.{_≡_, refl, sym}
 use mathlib.Core.List.{List, _++_}
 use Prim.Native.Nat.{ℕ, zero, suc, _-_}
 use lib.ListN.{length, drop, replicate}
 use Rattle.chains.specs.Psi.{Ψ}
 use Rattle.fields.specs.Fields.{fields, stores}
-use Rattle.rules.specs.Answer.{says, ifDone}
+use Rattle.rules.specs.Answer.{says}
+use Rattle.rules.proofs.AnswerLaws.{refused-stays}
 use Rattle.table.specs.declared.Elements.{Elements}
 use Rattle.table.specs.Table.{places}
 use Rattle.table.specs.Coded.{encodeNumber, encodeIn, packedTable, decodeNumber, decodeOf, elementsOf}
@@ -19,13 +20,9 @@ done s es l e p d =
     let t = encode-taken-gives s es (length l) e in
     rw (e, d, p) (refl, rw (t .count))
 
-kept : (n : ℕ) (new old : List ℕ) → (n ≡ 0 → ⊥) → old ≡ ifDone n new old
-kept zero new old h = absurd (h refl)
-kept (suc n) new old h = refl
-
 pub refused : (s : ℕ) (es l : List ℕ) {n : ℕ} → n ≡ encodeNumber s es (length l) → (n ≡ 0 → ⊥)
     → (says n 0 ≡ says (encodeNumber s es (length l)) 0) × (l ≡ encodeIn s es l)
-refused s es l {n} e h = rw (← e) (refl, kept n (packedTable s es (length l)) l h)
+refused s es l {n} e h = rw (← e) (refl, sym (refused-stays n (packedTable s es (length l)) l h))
 
 abbrev told : ℕ → ℕ → List ℕ → Elements
 told n count es = record { number = n; entry = 0; count = count; elements = es }

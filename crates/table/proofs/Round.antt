@@ -5,12 +5,11 @@ use mathlib.Core.List.{List, _++_}
 use Prim.Native.Nat.{ℕ, zero, suc, _+_, _-_, _*_, _≤_}
 use native.Mathlib.Omega.{arith}
 use lib.Dec.{T}
-use lib.ListN.{length, getD, replicate, length-replicate}
+use lib.ListN.{length, replicate, length-replicate}
 use Rattle.bits.specs.Bits.{Bytes, bit, field}
 use Rattle.bits.proofs.Laws.{lt-or-le, bit-past, field-lt}
 use Rattle.bits.proofs.Zeros.{bytes-zeros, bit-zeros, field-of-zeros, zeros-of-field}
 use Rattle.chains.specs.Psi.{Ψ}
-use Rattle.chains.specs.Packed as chain
 use Rattle.fields.specs.Ends.{endToEnd}
 use Rattle.fields.specs.Together.{Fit}
 use Rattle.fields.proofs.Laws.{length-fields, length-stores, fields-stores, stores-onto, bit-stores-out}
@@ -56,12 +55,6 @@ from-zero : (s : ℕ) → T (endToEnd 0 (elementPlaces s) (Ψ s * (s - 3)))
 from-zero s =
     let e : 0 + Ψ s * (s - 3) ≡ Ψ s * (s - 3) = omega arith in
     rw e at (places-joined (Ψ s) 0 (s - 3))
-
--- element i of the decoder, from 1 on, is SCT(i) of the chains
-pub decoded-element : (s i : ℕ) (b : List ℕ) → 1 ≤ i → i ≤ s - 3 → getD (elementsIn s b) (i - 1) 0 ≡ chain.elementIn b 0 (Ψ s) i
-decoded-element s i b h k =
-    let e : 0 + Ψ s * (i - 1) ≡ Ψ s * (i - 1) = omega arith in
-    element-is (Ψ s) (s - 3) (i - 1) b (omega arith) ∙ ap (λ (x : ℕ). field b x (Ψ s)) (sym e)
 
 -- what a decoding that is taken gives
 pub decoded : (s : ℕ) (b : List ℕ) → decodeOf s b .number ≡ 0

@@ -1,18 +1,16 @@
 -- Reading what was written gives it back: the last digit is the remainder by the base, and those before it the quotient. Assumes nothing.
-use mathlib.Core.Path.{_≡_, refl, sym, ap, _∙_}
-use mathlib.Core.Bool.{Bool, true, false, cond, _&&_}
+use mathlib.Core.Path.{_≡_, refl, _∙_}
+use mathlib.Core.Bool.{Bool, true, false, _&&_}
 use mathlib.Core.List.{List, [], _∷_, _++_}
 use Prim.Native.Nat.{ℕ, zero, suc, _+_, _-_, _*_, _/_, _%_, _^_, _≤_, _<_}
 use native.Mathlib.Omega.{arith}
 use native.Mathlib.Decide.{decLt}
 use native.Mathlib.Nat.{pow-suc, div-lt-iff-lt-mul, div-add-mod, div-add-mod', mod-lt, lt-of-lt-of-le}
 use lib.ListN.{length, length-append}
-use lib.Dec.{leb, ltb, lit<, lit≤}
+use lib.Dec.{lit<, lit≤}
 use borrow.Author.Tests.{lt-ltb, le-ltb, le-leb, lt-leb}
 use Rattle.io.specs.Digits.{glyph, digits}
-use Rattle.text.specs.declared.Number.{Number}
 use Rattle.text.specs.declared.Number.the-variants as number
-use Rattle.text.specs.declared.Byte.{Byte}
 use Rattle.text.specs.declared.Byte.the-variants as byte
 use Rattle.text.specs.Numbers.{isDigit, allDigits, after, numberAfter, numberOf, places, spelled}
 use Rattle.text.specs.Hex.{meant, pairWith, pairOf}

@@ -1,17 +1,15 @@
 -- The numbers of a line, word by word: those read so far are at the front of the list, and what is left of the line gives the others. Assumes nothing.
 use mathlib.Core.Path.{_≡_, refl, sym, ap, _∙_}
-use mathlib.Core.Bool.{Bool, true, false, cond}
 use mathlib.Core.List.{List, [], _∷_, _++_, append-nil, append-assoc}
-use Prim.Native.Nat.{ℕ, suc, _+_, _-_, _≤_, _<_}
+use Prim.Native.Nat.{ℕ, _+_, _-_, _≤_, _<_}
 use native.Mathlib.Omega.{arith}
 use native.Mathlib.Numerals.{add-one}
-use lib.ListN.{length, take, drop, set, length-set, length-take, take-append-drop}
+use lib.ListN.{length, take, drop, set, length-set, take-append-drop}
 use lib.Seq.{take-at, take-all, take-suc-set, drop-set-lt, drop-drop, length-take-le}
 use borrow.Author.Tests.{eq-eqb, ne-eqb}
-use Rattle.text.specs.declared.Number.{Number}
 use Rattle.text.specs.declared.Number.the-variants.{Is, Not}
 use Rattle.text.specs.Numbers.{numberOf}
-use Rattle.text.specs.Words.{words, restOf, wordEnd, before, numbersIn, numbersOf, countOf, fronted, none}
+use Rattle.text.specs.Words.{words, restOf, wordEnd, numbersIn, numbersOf, countOf, fronted, none}
 use Rattle.text.proofs.Split.{wordsAfter, rest-after, after-one, after-end}
 use Rattle.text.proofs.Listed.{part}
 

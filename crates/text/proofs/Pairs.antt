@@ -1,14 +1,13 @@
 -- A word of hexadecimal digits, two at a time: so many bytes as it has pairs. Assumes nothing.
-use mathlib.Core.Path.{_≡_, refl, sym, ap, _∙_}
-use mathlib.Core.Bool.{Bool, true, false, cond, _&&_, _||_, and-false}
-use mathlib.Core.List.{List, [], _∷_, _++_}
-use Prim.Native.Nat.{ℕ, zero, suc, _+_, _-_, _*_, _/_, _%_, _≤_, _<_, min}
+use mathlib.Core.Path.{_≡_, refl, sym}
+use mathlib.Core.Bool.{true, false, _&&_, and-false}
+use mathlib.Core.List.{List, [], _∷_}
+use Prim.Native.Nat.{ℕ, zero, suc, _+_, _-_, _*_, _/_, _%_, _<_, min}
 use native.Mathlib.Omega.{arith}
 use native.Mathlib.Numerals.{add-one}
 use native.Mathlib.Decide.{decLt}
-use lib.ListN.{length, getD, take, drop, set, length-take}
-use lib.Seq.{drop-cons, drop-length, drop-drop, take-all, take-suc, take-at, drop-at, set-at, append-snoc, length-take-le}
-use Rattle.text.specs.declared.Byte.{Byte}
+use lib.ListN.{length, getD, take, drop, set}
+use lib.Seq.{drop-cons, drop-length, take-all, take-suc, set-at, append-snoc, length-take-le}
 use Rattle.text.specs.declared.Byte.the-variants.{Is, Not}
 use Rattle.text.specs.Words.{same, bytesOf, fronted, none}
 use Rattle.text.proofs.Split.{same-alike}

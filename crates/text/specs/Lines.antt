@@ -12,6 +12,10 @@ use Rattle.text.specs.declared.feed.Feed.{Feed}
 abbrev pub atFirst : Feed
 atFirst = record { given = false; start = 0; end = 0; at = 0; filled = 0; passing = false; ended = false }
 
+-- the line that a turn gives, in the buffer b
+abbrev pub lineOf : List ℕ → Feed → List ℕ
+lineOf b f = take (f .end - f .start) (drop (f .start) b)
+
 -- the buffer b with the n bytes from byte p on moved to its front
 unfoldable pub moved : ℕ → ℕ → List ℕ → List ℕ
 moved p n b = take n (drop p b) ++ drop n b

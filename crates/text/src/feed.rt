@@ -3,8 +3,8 @@ use crate::words::least;
 use libc::STDIN_FILENO;
 ghost use mathlib.Core.Path.{_≡_};
 ghost use Prim.Native.Nat.{_-_, _≤_};
-ghost use lib.ListN.{length, take, drop, replicate};
-ghost use Rattle.text.specs.Lines.{atFirst, moved, Reading, Turn};
+ghost use lib.ListN.{length, replicate};
+ghost use Rattle.text.specs.Lines.{atFirst, lineOf, moved, Reading, Turn};
 
 const LINE_END: u8 = 10;
 
@@ -33,7 +33,7 @@ pub fn room() -> [u8; ROOM]
 // The line that a turn gives.
 pub fn line(input: &[u8], f: Feed) -> &[u8]
     requires { ⌜ (f .start ≤ f .end) × (f .end ≤ length (now input)) ⌝ }
-    ensures { λ r. ⌜ now r ≡ take (f .end - f .start) (drop (f .start) (now (input .entry))) ⌝ }
+    ensures { λ r. ⌜ now r ≡ lineOf (now (input .entry)) f ⌝ }
 {
     let start = f.start;
     let end = f.end;

@@ -1,5 +1,5 @@
 -- A ticket's header both ways: the law of records that are all of their bytes, at its list. Assumes nothing.
-use mathlib.Core.Path.{_≡_, sym, _∙_}
+use mathlib.Core.Path.{_≡_}
 use mathlib.Core.Logic.{_↔_}
 use mathlib.Core.List.{List}
 use Prim.Native.Nat.{ℕ}
@@ -11,7 +11,6 @@ use Rattle.fields.specs.Fields.{fit}
 use Rattle.fields.specs.Lists as lists
 use Rattle.fields.proofs.Joined.{lists-joined}
 use Rattle.fields.proofs.Whole.{decode-encode, encode-decode, packed-exactly}
-use Rattle.ticket.specs.declared.HeaderBytes.{HeaderBytes}
 use Rattle.ticket.specs.Ticket.{headerIn, headerBytes}
 
 pub header-back : (vs : List ℕ) → length vs ≡ 3 → Means (fit lists.head vs) → headerIn (headerBytes vs .bytes) .values ≡ vs

@@ -19,7 +19,6 @@ use Rattle.fields.specs.Together.{Fit}
 use Rattle.fields.proofs.Joined.{lists-joined}
 use Rattle.fields.proofs.Laws.{fields-stores, stores-onto, field-before, fit-fields, getD-fields, length-fields, length-stores, bytes-stores}
 use Rattle.ticket.specs.declared.Record.{Record}
-use Rattle.ticket.specs.declared.Encoded.{Encoded}
 use Rattle.ticket.specs.Kind.{kind, limit, fitting, recordRule}
 use Rattle.ticket.specs.Ticket.{zeros, bytesOf, encoded, encodeBy, encodeOf, decodeOf}
 use Rattle.ticket.proofs.Limits.{same-or-not, limit-time, limit-other, fit-lowest, lowest-fitting}

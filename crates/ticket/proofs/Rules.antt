@@ -1,22 +1,19 @@
 -- The numbers 22, 23 and 26: what each check answers is what the rules say. Assumes nothing.
 use mathlib.Core.Path.{_≡_, refl, sym, _∙_}
-use mathlib.Core.Logic.{inl, inr, ⊎-elim}
 use mathlib.Core.Bool.{Bool, true, false, cond, _&&_}
 use mathlib.Core.List.{List, [], _∷_}
-use Prim.Native.Nat.{ℕ, zero, suc, _+_, _-_, _*_, _≤_, _<_}
-use native.Mathlib.Decide.{ℕ-discrete}
+use Prim.Native.Nat.{ℕ, zero, suc, _+_, _-_, _*_}
 use native.Mathlib.Omega.{arith}
-use lib.ListN.{length, getD}
+use lib.ListN.{length}
 use lib.Dec.{eqb, leb, ltb}
 use borrow.Author.Tests.{lt-ltb}
-use Rattle.bits.proofs.Laws.{lt-or-le}
-use Rattle.rules.specs.Claim.{Means, here}
+use Rattle.rules.specs.Claim.{here}
 use Rattle.rules.specs.First.{ifKept, first}
 use Rattle.rules.proofs.ClaimLaws.{orElse}
 use Rattle.rules.proofs.First.{first-of-kept, first-of-fails}
 use Rattle.fields.specs.Packed.{firstAbove}
-use Rattle.fields.proofs.Laws.{Found, none, at, above-found, lowest-none, lowest-first}
-use Rattle.ticket.specs.Kind.{kind, typ, revision, leastOf, countOf, mostOf, limit, kindRules, recordRule}
+use Rattle.fields.proofs.Laws.{at, lowest-none, lowest-first}
+use Rattle.ticket.specs.Kind.{kind, typ, revision, leastOf, mostOf, kindRules, recordRule}
 use Rattle.ticket.specs.Checks.{formIn, formNumber, extentIn, extentNumber}
 use Rattle.ticket.specs.declared.Form.the-variants.{Ticket, Other}
 use Rattle.ticket.specs.declared.Extent.the-variants.{End, Wrong}

@@ -1,20 +1,17 @@
 -- What a step on a record answers, case by case; and that a field set is read, the others stay, and a refused step keeps the record:
 -- the number is the first rule that fails. Assumes nothing.
-use mathlib.Core.Path.{_≡_, refl, sym, ap, _∙_}
+use mathlib.Core.Path.{_≡_, refl, sym, _∙_}
 use mathlib.Core.Logic.{_↔_, _≢_}
 use mathlib.Core.Bool.{true, false}
 use mathlib.Core.List.{[], _∷_}
 use Prim.Native.Nat.{ℕ, zero, suc, _-_, _≤_}
 use native.Mathlib.Omega.{arith}
-use lib.ListN.{length, getD}
-use lib.Seq.{getD-set-same, getD-set-other}
+use lib.ListN.{getD}
 use Rattle.rules.specs.First.{holds, first}
-use Rattle.rules.specs.Claim.{Kept, Answers}
+use Rattle.rules.specs.Claim.{Answers}
 use Rattle.rules.proofs.ClaimLaws.{Numbered}
-use Rattle.rules.proofs.First.{kept-of-first, first-of-kept, taken-exactly, answers-exactly}
+use Rattle.rules.proofs.First.{kept-of-first, answers-exactly}
 use Rattle.ticket.specs.declared.Record.{Record}
-use Rattle.ticket.specs.declared.Changed.{Changed}
-use Rattle.ticket.specs.declared.Value.{Value}
 use Rattle.ticket.specs.Kind.{kind, countOf, fieldRule, setRules}
 use Rattle.ticket.specs.Ticket.{changed, with, setNumber, valueNumber, nextOf, setOf, valueIf, valueOf}
 
@@ -96,26 +93,3 @@ taken-value t n z = go (valueNumber n) z
     go : (k : ℕ) → valueIf k (getD (t .values) (n - 1) 0) .number ≡ 0 → valueIf k (getD (t .values) (n - 1) 0) .value ≡ getD (t .values) (n - 1) 0
     go zero z = refl
     go (suc k) z = absurd (omega arith)
-
-number-zero : {n : ℕ} → (1 ≤ n) × (n ≤ countOf kind) → valueNumber n ≡ 0
-unfolding valueNumber
-number-zero {n} r = first-of-kept (fieldRule n ∷ []) (value-numbered n) (r, tt)
-
-module _ (t : Record) (n v : ℕ) (many : length (t .values) ≡ 22) (e : setOf t n v .number ≡ 0) where
-  in-range : (1 ≤ n) × (n ≤ 22)
-  unfolding setNumber
-  in-range = set-field t n v (setNumber n v) refl e
-
-  -- reading a field after setting it gives the value
-  pub read-set : valueOf (setOf t n v .next) n ≡ record { number = 0; entry = 0; value = v }
-  read-set =
-      let r = in-range in
-      ap (λ (u : Record). valueOf u n) (taken-next t n v e) ∙ ap (λ (k : ℕ). valueIf k (getD (with t n v .values) (n - 1) 0)) (number-zero r)
-      ∙ ap (valueIf 0) (getD-set-same (t .values) (n - 1) v 0 (omega (arith, r .0, r .1)))
-
-  -- other fields stay
-  pub others-stay : (m : ℕ) → 1 ≤ m → (m ≡ n → ⊥) → valueOf (setOf t n v .next) m ≡ valueOf t m
-  others-stay m h ne =
-      let r = in-range in
-      ap (λ (u : Record). valueOf u m) (taken-next t n v e)
-      ∙ ap (valueIf (valueNumber m)) (getD-set-other (t .values) (n - 1) (m - 1) v 0 (λ q. ne (omega (arith, r .0))))

@@ -10,13 +10,14 @@ use lib.ListN.{length}
 use Rattle.rules.specs.Claim.{Answers}
 use Rattle.rules.specs.First.{first}
 use Rattle.rules.proofs.First.{answers-exactly}
+use Rattle.rules.proofs.AnswerLaws.{refused-stays}
 use Rattle.image.specs.Image.{e#}
 use Rattle.image.specs.Obeys.{Obeys}
 use Rattle.rules.specs.declared.Answer.{Answer}
 use Rattle.image.specs.Verdict.{verdict}
 use Rattle.image.proofs.Exact.{exact, says, accepted-exactly}
 use Rattle.steps.specs.Touched.{compareRules, Compares, before, after, both}
-use Rattle.steps.specs.Flags.{orRefusal, touchedAnswer, flagsIf, flagsTo, touchedFlags}
+use Rattle.steps.specs.Flags.{orRefusal, touchedAnswer, flagsTo, touchedFlags}
 
 or-refused : (v w : Answer) → v .number ≢ 0 → orRefusal v w ≡ v
 or-refused v w h = go (v .number) (v .entry) h
@@ -86,8 +87,4 @@ module _ (c d : List ℕ) (n : ℕ) where
 -- refused, the flags are as they were
 pub flags-stay : (c d f : List ℕ) → touchedAnswer c d (length f) .number ≢ 0 → touchedFlags c d f ≡ f
 unfolding touchedFlags
-flags-stay c d f h = go (touchedAnswer c d (length f) .number) h
-  where
-    go : (n : ℕ) → n ≢ 0 → flagsIf n (flagsTo c d (e# c)) f ≡ f
-    go zero h = absurd (h refl)
-    go (suc n) h = refl
+flags-stay c d f h = refused-stays (touchedAnswer c d (length f) .number) (flagsTo c d (e# c)) f h

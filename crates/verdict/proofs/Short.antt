@@ -5,7 +5,7 @@ use mathlib.Core.List.{List, [], _∷_}
 use Prim.Native.Nat.{ℕ, zero, suc, _+_, _-_, _*_, _/_, _%_, _^_, _≤_, _<_}
 use native.Mathlib.Nat.{add-mul, mul-le-mul, le-refl}
 use native.Mathlib.Omega.{arith}
-use lib.ListN.{length, getD, take, drop}
+use lib.ListN.{length, getD}
 use Rattle.bits.specs.Bits.{Bytes, field}
 use Rattle.bits.proofs.Laws.{field-add, field-byte, field-lt, field-next, field-drop}
 use Rattle.crc.specs.Crc.{crc}

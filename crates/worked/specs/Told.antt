@@ -1,7 +1,7 @@
 -- An annex: a card with copy B in force; and a ticket of two sectors, read, written, read again, blocked, read again: each over the definitions that the contracts
 -- cite. Assumes nothing.
 use mathlib.Core.Path.{_≡_}
-use mathlib.Core.List.{List, [], _∷_, _++_}
+use mathlib.Core.List.{List, [], _∷_}
 use Prim.Native.Nat.{ℕ}
 use lib.ListN.{replicate}
 use Rattle.image.specs.Image.{sectors, mark, product}

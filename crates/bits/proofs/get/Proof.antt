@@ -1,9 +1,7 @@
 -- `bits::get` meets its contract: the field lies within the bytes that it touches. Assumes nothing.
-use mathlib.Core.Path.{_≡_, _∙_, ap, refl}
-use Prim.Native.Nat.{ℕ, _<_, _+_, _-_, _*_, _/_, _%_, _^_}
-use native.Mathlib.Omega.{arith}
+use mathlib.Core.Path.{_∙_, ap, refl}
+use Prim.Native.Nat.{ℕ, _+_, _-_, _*_, _/_, _%_, _^_}
 use borrow.Author.Needs.{needs}
-use Rattle.bits.specs.Bits.{field}
 use Rattle.bits.proofs.Laws.{field-in-bytes}
 use Rattle.bits.proofs.get.Statement.{statement}
 use Rattle.bits.proofs.get.Tie as tie

@@ -1,9 +1,8 @@
 -- `bits::load` meets its contract. The loop's invariant: the number holds the bytes passed. Assumes nothing.
-use mathlib.Core.Path.{_≡_, _∙_, sym, ap, refl}
+use mathlib.Core.Path.{_≡_, sym}
 use Prim.Native.Nat.{ℕ, _≤_, _<_, _-_, _+_, _*_, _^_}
 use native.Mathlib.Omega.{arith}
 use mathlib.Core.List.{List}
-use lib.ListN.{length, getD}
 use borrow.Author.Needs.{needs}
 use Rattle.bits.specs.Bits.{field}
 use Rattle.bits.proofs.Laws.{field-zero, field-next, field-below}

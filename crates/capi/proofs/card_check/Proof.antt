@@ -1,5 +1,5 @@
 -- `capi::card_check` meets its contract: an accepted image has the verdict 0, 0. Assumes nothing.
-use mathlib.Core.Path.{_≡_, sym, _∙_}
+use mathlib.Core.Path.{sym, _∙_}
 use borrow.Author.Needs.{needs}
 use Rattle.rules.proofs.AnswerLaws.{says-same}
 use Rattle.image.proofs.Accepted.{accepted-open, refused-shut}

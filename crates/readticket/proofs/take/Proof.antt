@@ -3,7 +3,7 @@ use mathlib.Core.Path.{refl, sym, _∙_}
 use native.Mathlib.Omega.{arith}
 use lib.ListN.{length}
 use Rattle.reads.specs.Ticket.{bufferAfter}
-use Rattle.reads.proofs.Given.{lent-refused}
+use Rattle.rules.proofs.AnswerLaws.{refused-stays}
 use Rattle.image.proofs.Places.{size-of}
 use Rattle.readticket.proofs.Taken.{Taking, judged-taken, judged-refused}
 use borrow.Author.Needs.{needs}
@@ -27,7 +27,7 @@ returns : tie.Need-returns
 unfolding bufferAfter
 returns c =
     let s = judged-refused _ _ _ (sym (c .before .before .judge .ensures) ∙ c .enum-told .given .1) in
-    (c .before .before .judge .ensures, rw (s .number-is) (sym (lent-refused _ _ _ (s .some))))
+    (c .before .before .judge .ensures, rw (s .number-is) (sym (refused-stays _ _ _ (s .some))))
 
 shape-of-requires : tie.Need-shape-of-requires
 shape-of-requires c κs = taking (c .before) .known .opened .shape .in-bounds

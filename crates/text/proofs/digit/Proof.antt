@@ -1,6 +1,5 @@
 -- `text::digit` meets its contract: its two tests are those of the definition.
 -- Assumes nothing.
-use Prim.Native.Nat.{_≤_}
 use native.Mathlib.Omega.{arith}
 use lib.Dec.{leb}
 use borrow.Author.Tests.{leb-true}

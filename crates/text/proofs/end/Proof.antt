@@ -1,7 +1,6 @@
 -- `text::end` meets its contract: the first blank of what follows in the line.
 -- Assumes nothing.
 use native.Mathlib.Omega.{arith}
-use lib.ListN.{length}
 use lib.Seq.{take-length}
 use borrow.Author.Needs.{needs}
 use Rattle.bytes.specs.Bytes.{slice}

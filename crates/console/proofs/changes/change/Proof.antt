@@ -1,7 +1,5 @@
 -- `changes::change` meets its contract: each command calls its step with its own numbers.
 -- Assumes nothing.
-use mathlib.Core.Path.{sym, _∙_}
-use native.Mathlib.Omega.{arith}
 use Rattle.console.proofs.Stepped.{field, whole, mark}
 use borrow.Author.Needs.{needs}
 use Rattle.console.proofs.changes.change.Statement.{statement}

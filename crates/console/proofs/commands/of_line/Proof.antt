@@ -1,6 +1,5 @@
 -- `commands::of_line` meets its contract: the first word ends at the first blank, and the list holds the numbers of the others.
 -- Assumes nothing.
-use mathlib.Core.Path.{_≡_, refl}
 use Rattle.console.proofs.Read.{of-line}
 use borrow.Author.Needs.{needs}
 use Rattle.console.proofs.commands.of_line.Statement.{statement}

@@ -1,10 +1,8 @@
 -- `commands::trial` meets its contract: each number is the place of its command in the list.
 -- Assumes nothing.
-use Prim.Native.Nat.{_≤_}
 use native.Mathlib.Omega.{arith}
 use Rattle.console.specs.Commands.{trial}
 use Rattle.console.proofs.Found.{past, beyond}
-use borrow.Author.Needs.{needs}
 use Rattle.console.proofs.commands.trial.Statement.{statement}
 use Rattle.console.proofs.commands.trial.Tie as tie
 

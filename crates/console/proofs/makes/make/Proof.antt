@@ -1,11 +1,7 @@
 -- `makes::make` meets its contract: each command is passed on to the function that does it.
 -- Assumes nothing.
 use borrow.Author.Needs.{needs}
-use mathlib.Core.Path.{_≡_}
-use Prim.Native.Nat.{ℕ}
 use mathlib.Core.List.{[]}
-use Rattle.console.specs.declared.commands.Make.{Make}
-use Rattle.console.specs.declared.commands.Make.the-variants.{Zeros, Keep, Touched, At}
 use Rattle.console.proofs.Made.{make-zeros, make-keep, make-touched, make-at}
 use Rattle.console.proofs.makes.make.Statement.{statement}
 use Rattle.console.proofs.makes.make.Tie as tie

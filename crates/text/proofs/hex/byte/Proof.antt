@@ -1,6 +1,6 @@
 -- `hex::byte` meets its contract, by whether the two digits mean a byte.
 -- Assumes nothing.
-use mathlib.Core.Path.{_≡_, sym, ap, _∙_}
+use mathlib.Core.Path.{sym, ap, _∙_}
 use Rattle.text.specs.Hex.{byteOr0}
 use borrow.Author.Needs.{needs}
 use Rattle.text.proofs.hex.byte.Statement.{statement}

@@ -3,7 +3,7 @@
 use mathlib.Core.Path.{sym, _∙_}
 use Prim.Native.Nat.{_-_}
 use native.Mathlib.Omega.{arith}
-use lib.ListN.{length, length-set}
+use lib.ListN.{length}
 use Rattle.text.proofs.Numbered.{Reading, begun, full, strange, one-more, whole}
 use borrow.Author.Needs.{needs}
 use Rattle.text.proofs.words.numbers.Statement.{statement}
