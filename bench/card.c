@@ -275,7 +275,6 @@ INLINE u32 read_product(const u8 *image, size_t length, u64 entry, u8 *buffer, s
     const u8 *sectors = image + 4, *before = image + v->before;
     code = judge_kind(image, v, entry, sectors + s * B);
     if (code != 0) return code;
-    if ((be16(sectors + s * B + 9) & 0x7FF) >= 1440) return 24;
     for (;;) {
         copy_sector(buffer, sectors + s * B, B);
         if (--left == 0) return 0;
@@ -347,12 +346,12 @@ struct field {
 
 #define WINDOW(first) ((first) / 8 < 21 ? (first) / 8 : 21)
 #define SHIFT(first, width) (64 + 8 * WINDOW(first) - (first) - (width))
-#define FIELD_TO(first, width, most) { ~((((u64)1 << (width)) - 1) << SHIFT(first, width)), (most), WINDOW(first), SHIFT(first, width) }
-#define FIELD(first, width) FIELD_TO(first, width, (u32)(((u64)1 << (width)) - 1))
+#define MOST(width) (((u64)1 << (width)) - 1)
+#define FIELD(first, width) { ~(MOST(width) << SHIFT(first, width)), (u32)MOST(width), WINDOW(first), SHIFT(first, width) }
 
 static const struct field fields[22] = {
     FIELD(16, 8),   FIELD(24, 16),  FIELD(40, 8),   FIELD(48, 2),  FIELD(50, 6),   FIELD(56, 2),
-    FIELD(58, 14),  FIELD(72, 5),   FIELD_TO(77, 11, 1439),        FIELD(88, 5),   FIELD(93, 3),
+    FIELD(58, 14),  FIELD(72, 5),   FIELD(77, 11),  FIELD(88, 5),  FIELD(93, 3),
     FIELD(96, 8),   FIELD(104, 8),  FIELD(112, 8),  FIELD(120, 4), FIELD(124, 4),  FIELD(128, 32),
     FIELD(160, 4),  FIELD(164, 12), FIELD(176, 32), FIELD(208, 8), FIELD(216, 16),
 };
@@ -367,7 +366,7 @@ INLINE u32 bad_record(const u64 value[22])
 {
     u64 over = 0;
     for (u32 i = 0; i < 22; i++) over |= value[i] & too_wide[i];
-    return over != 0 || value[8] >= 1440;
+    return over != 0;
 }
 
 /* Bits 16 to 231, by four words of which each mends the one before. */

@@ -43,7 +43,7 @@ static size_t any(size_t n)
 }
 
 static const uint64_t limits[22] = {
-    255, 65535, 255, 3, 63, 3, 16383, 31, 1439, 31, 7, 255, 255, 255, 15, 15, 0xFFFFFFFF, 15, 4095, 0xFFFFFFFF, 255, 65535,
+    255, 65535, 255, 3, 63, 3, 16383, 31, 2047, 31, 7, 255, 255, 255, 15, 15, 0xFFFFFFFF, 15, 4095, 0xFFFFFFFF, 255, 65535,
 };
 
 static void row(const char *name, const char *card, size_t calls)
@@ -86,10 +86,11 @@ static void damage(void)
                 image[directory + 2 + 5 * (j - 1) + i] = 0;
         if (what == 9)
             image[table + any(table_size)] = any(256);
-        if (what == 10) { /* ExpiryTime 1,439 or 1,440 */
+        if (what == 10) { /* ExpiryTime 1,439, 1,440 or 2,047 */
             uint8_t *p = image + 4 + (1 + any(entries)) * size;
-            p[9] = 5;
-            p[10] = 0x9F + any(2);
+            size_t time = any(3) ? 1439 + any(2) : 2047;
+            p[9] = time >> 8;
+            p[10] = time & 255;
         }
     }
     size_t dataset = image[4] & 0xFC;

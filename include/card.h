@@ -18,9 +18,9 @@
 /* Bytes of stack that a call takes at most, its return address included, as tests/stack measures them on the smallest, the largest and
    the worst cards:
    card_check 720, card_read_shell 944, card_read_directory 736, card_read_table 1232, card_read_entry 736, card_read_chain 1248,
-   card_read_ticket 1072, card_fill 928, card_write_field 816, card_write_record 752, card_mark 736, card_touched 864, card_record_set 216,
+   card_read_ticket 1040, card_fill 896, card_write_field 816, card_write_record 736, card_mark 736, card_touched 864, card_record_set 216,
    card_record_value 216, card_encode_shell 200, card_decode_shell 272, card_encode_entry 56, card_decode_entry 8, card_encode_head 8,
-   card_decode_head 8, card_encode_tail 8, card_decode_tail 8, card_encode_header 8, card_decode_header 8, card_encode_ticket 312,
+   card_decode_head 8, card_encode_tail 8, card_decode_tail 8, card_encode_header 8, card_decode_header 8, card_encode_ticket 296,
    card_decode_ticket 88, card_encode_table 104, card_decode_table 568, card_date_of 48, card_stamp_of 80. */
 #ifndef CARD_H
 #define CARD_H
@@ -50,7 +50,7 @@ typedef struct { size_t number, entry; uint64_t values[7]; } card_entry;
 /* The mark (fresh 0, used 1, blocked 2), the number of sectors and the sectors in chain order; zeros after. */
 typedef struct { size_t number, entry, mark, count; uint8_t sectors[252]; } card_chain;
 
-/* Three header values, twenty-two values, the end of the ticket in minutes, the mark and the number of sectors. */
+/* Three header values, twenty-two values, the end of the ticket in minutes (at most 23,595,007), the mark and the number of sectors. */
 typedef struct { size_t number, entry; uint64_t header[3], values[22], end; size_t mark, sectors; } card_ticket;
 
 /* The dataset's end in the filled buffer, 4 x IPELength. */
@@ -87,7 +87,7 @@ card_table card_read_table(const uint8_t *image, size_t length);
 card_entry card_read_entry(const uint8_t *image, size_t length, size_t entry);
 card_chain card_read_chain(const uint8_t *image, size_t length, size_t entry);
 
-/* Copies the product into the buffer and reads its ticket: 20, 21, 22, 23, 24. Only the first sectors x B bytes of the buffer change. */
+/* Copies the product into the buffer and reads its ticket: 20, 21, 22, 23. Only the first sectors x B bytes of the buffer change. */
 card_ticket card_read_ticket(const uint8_t *image, size_t length, size_t entry, uint8_t *buffer, size_t size);
 
 /* The same copy and checks; the bytes after the fixed fields are buffer[29] up to buffer[end - 1]. That is what `rest` is in Rattle. */

@@ -14,14 +14,14 @@ use Rattle.fields.proofs.Whole.{decode-encode, encode-decode, packed-exactly}
 use Rattle.directory.specs.Records.{entryBytes, entryIn, headBytes, headIn, tailBytes, tailIn}
 
 -- decoding what was encoded gives the values back
-pub entry-back : (vs : List ℕ) → length vs ≡ 7 → Means (fit lists.entry vs) → entryIn (entryBytes vs .bytes) .values ≡ vs
-entry-back vs n m = decode-encode layout.Entry 5 (lists-joined layout.Entry) vs n m
+pub entry-back : (vs : List ℕ) → Means (fit lists.entry vs) → entryIn (entryBytes vs .bytes) .values ≡ vs
+entry-back vs m = decode-encode layout.Entry 5 (lists-joined layout.Entry) vs m
 
-pub head-back : (vs : List ℕ) → length vs ≡ 3 → Means (fit lists.head vs) → headIn (headBytes vs .bytes) .values ≡ vs
-head-back vs n m = decode-encode layout.Head 2 (lists-joined layout.Head) vs n m
+pub head-back : (vs : List ℕ) → Means (fit lists.head vs) → headIn (headBytes vs .bytes) .values ≡ vs
+head-back vs m = decode-encode layout.Head 2 (lists-joined layout.Head) vs m
 
-pub tail-back : (vs : List ℕ) → length vs ≡ 4 → Means (fit lists.tail vs) → tailIn (tailBytes vs .bytes) .values ≡ vs
-tail-back vs n m = decode-encode layout.Tail 6 (lists-joined layout.Tail) vs n m
+pub tail-back : (vs : List ℕ) → Means (fit lists.tail vs) → tailIn (tailBytes vs .bytes) .values ≡ vs
+tail-back vs m = decode-encode layout.Tail 6 (lists-joined layout.Tail) vs m
 
 -- encoding what was decoded gives the bytes back, always
 pub entry-again : (b : List ℕ) → Bytes b → length b ≡ 5 → entryBytes (entryIn b .values) ≡ record { number = 0; entry = 0; bytes = b }

@@ -10,15 +10,13 @@ use lib.Dec.{T}
 use lib.ListN.{length, getD, set, length-set}
 use lib.Seq.{ext-getD, getD-set-same, getD-set-other}
 use lib.Pow.{pow-pos}
-use borrow.Author.Tests.{lt-ltb, le-ltb}
+use Rattle.rules.specs.Claim.{Means}
 use Rattle.bits.specs.Bits.{Bytes, bit, field, store}
 use Rattle.bits.proofs.Laws.{lt-or-le, bit-past, ext, digit-field, field-lt, field-store, field-store-apart, store-field, length-store, bytes-store, bit-store-in, bit-store-out}
 use Rattle.fields.specs.declared.Span.{Span}
 use Rattle.fields.specs.Ends.{endToEnd}
 use Rattle.fields.specs.Lists.{nth}
-use Rattle.fields.specs.Fields.{fields, stores, limitOf, limits}
-use Rattle.fields.specs.Packed.{above, firstAbove}
-use Rattle.fields.specs.Together.{Fit}
+use Rattle.fields.specs.Fields.{fields, stores, limitOf, fit}
 use Rattle.fields.proofs.Joined.{head-of, tail-of, nil-of, ends, within, ordered}
 
 -- ---- one at a time
@@ -34,17 +32,6 @@ unfolding fields
 getD-fields l [] i h = absurd (not-suc-le-zero h)
 getD-fields l (p ∷ ps) zero h = refl
 getD-fields l (p ∷ ps) (suc i) h = getD-fields l ps i (le-of-suc-le-suc h)
-
-pub length-limits : (ps : List Span) → length (limits ps) ≡ length ps
-unfolding limits
-length-limits [] = refl
-length-limits (p ∷ ps) = ap suc (length-limits ps)
-
-pub getD-limits : (ps : List Span) (i : ℕ) → i < length ps → getD (limits ps) i 0 ≡ limitOf (nth ps i)
-unfolding limits
-getD-limits [] i h = absurd (not-suc-le-zero h)
-getD-limits (p ∷ ps) zero h = refl
-getD-limits (p ∷ ps) (suc i) h = getD-limits ps i (le-of-suc-le-suc h)
 
 -- a value is within its limit exactly if it has the place's width
 pub fits : (p : Span) (v : ℕ) → v ≤ limitOf p → v < 2 ^ p .1
@@ -90,16 +77,16 @@ field-before a (p ∷ ps) e t l (v ∷ vs) q u h =
     field-before (a + p .1) ps e (tail-of a p ps e t) (store l (p .0) (p .1) v) vs q u (omega arith)
     ∙ field-store-apart l (p .0) (p .1) v q u (inr (omega arith))
 
-fit-tail : (p : Span) (ps : List Span) (v : ℕ) (vs : List ℕ) → Fit (p ∷ ps) (v ∷ vs) → Fit ps vs
-fit-tail p ps v vs f = record { many = omega (arith, f .many); low = λ i h. f .low (suc i) (omega arith) }
+fit-tail : (p : Span) (ps : List Span) (v : ℕ) (vs : List ℕ) → Means (fit (p ∷ ps) (v ∷ vs)) → Means (fit ps vs)
+fit-tail p ps v vs f = (omega (arith, f .0), λ i h. f .1 (suc i) (omega arith))
 
 -- what is stored is read
-pub fields-stores : (a : ℕ) (ps : List Span) (e : ℕ) → T (endToEnd a ps e) → (l vs : List ℕ) → e ≤ 8 * length l → Fit ps vs
+pub fields-stores : (a : ℕ) (ps : List Span) (e : ℕ) → T (endToEnd a ps e) → (l vs : List ℕ) → e ≤ 8 * length l → Means (fit ps vs)
     → fields (stores l ps vs) ps ≡ vs
 unfolding fields stores
 fields-stores a [] e t l [] h f = refl
-fields-stores a [] e t l (v ∷ vs) h f = absurd (omega (arith, f .many))
-fields-stores a (p ∷ ps) e t l [] h f = absurd (omega (arith, f .many))
+fields-stores a [] e t l (v ∷ vs) h f = absurd (omega (arith, f .0))
+fields-stores a (p ∷ ps) e t l [] h f = absurd (omega (arith, f .0))
 fields-stores a (p ∷ ps) e t l (v ∷ vs) h f =
     let m = store l (p .0) (p .1) v in
     let n = length-store l (p .0) (p .1) v in
@@ -108,7 +95,7 @@ fields-stores a (p ∷ ps) e t l (v ∷ vs) h f =
     let r = ends (a + p .1) ps e u in
     ap₂ (λ (x : ℕ) (xs : List ℕ). x ∷ xs)
     (field-before (a + p .1) ps e u m vs (p .0) (p .1) (omega arith)
-    ∙ field-store l (p .0) (p .1) v (omega arith) (fits p v (f .low 0 (omega arith))))
+    ∙ field-store l (p .0) (p .1) v (omega arith) (fits p v (f .1 0 (omega arith))))
     (fields-stores (a + p .1) ps e u m vs (omega arith) (fit-tail p ps v vs f))
 
 -- what is read is stored back
@@ -165,83 +152,8 @@ fields-store a ps e t l v i h r g =
     (lt-or-le i j)) (lt-or-le j i))
 
 -- what is read fits
-pub fit-fields : (l : List ℕ) (ps : List Span) → Fit ps (fields l ps)
-fit-fields l ps = record {
-  many = length-fields l ps;
-  low = λ i h. rw (getD-fields l ps i h) (fits-back (nth ps i) _ (field-lt l (nth ps i .0) (nth ps i .1)));
-}
-
--- ---- the lowest value that does not fit
-
--- k is the first, from 0, whose value is above its limit
-pub record First (ms vs : List ℕ) (k : ℕ) : Type 0 where
-  pub inside : k < length vs
-  pub over : getD ms k 0 < getD vs k 0
-  pub low : (j : ℕ) → j < k → getD vs j 0 ≤ getD ms j 0
-
--- no value is above its limit
-abbrev pub AllLow : List ℕ → List ℕ → Type 0
-AllLow ms vs = (j : ℕ) → j < length vs → getD vs j 0 ≤ getD ms j 0
-
-first-suc : (m v : ℕ) (ms vs : List ℕ) (k : ℕ) → v ≤ m → First ms vs k → First (m ∷ ms) (v ∷ vs) (suc k)
-first-suc m v ms vs k h f = record { inside = omega (arith, f .inside); over = f .over; low = low′ }
-  where
-    low′ : (j : ℕ) → j < suc k → getD (v ∷ vs) j 0 ≤ getD (m ∷ ms) j 0
-    low′ zero b = h
-    low′ (suc j) b = f .low j (omega arith)
-
--- what `above` finds is one of the two, and it says which
-pub data Found (ms vs : List ℕ) (n : ℕ) : ℕ → Type 0 where
-  none : AllLow ms vs → Found ms vs n 0
-  at : (k : ℕ) → First ms vs k → Found ms vs n (suc (n + k))
-
-found-next : (m v : ℕ) (ms vs : List ℕ) (n : ℕ) {r : ℕ} → v ≤ m → Found ms vs (suc n) r → Found (m ∷ ms) (v ∷ vs) n r
-found-next m v ms vs n h (none a) = none all
-  where
-    all : AllLow (m ∷ ms) (v ∷ vs)
-    all zero b = h
-    all (suc j) b = a j (omega arith)
-found-next m v ms vs n h (at k f) =
-    let q : suc (suc n + k) ≡ suc (n + suc k) = omega arith in
-    rw q (at (suc k) (first-suc m v ms vs k h f))
-
-first-zero : (m v : ℕ) (ms vs : List ℕ) → m < v → First (m ∷ ms) (v ∷ vs) 0
-first-zero m v ms vs h = record { inside = omega arith; over = h; low = λ j b. absurd (not-suc-le-zero b) }
-
-pub above-found : (ms vs : List ℕ) (n : ℕ) → length ms ≡ length vs → Found ms vs n (above ms vs n)
-unfolding above
-above-found [] [] n e = none (λ j h. absurd (not-suc-le-zero h))
-above-found [] (v ∷ vs) n e = absurd (omega arith)
-above-found (m ∷ ms) [] n e = absurd (omega arith)
-above-found (m ∷ ms) (v ∷ vs) n e =
-    ⊎-elim
-    (λ h. let q : suc n ≡ suc (n + 0) = omega arith in
-    rw (lt-ltb m v h, q) (at 0 (first-zero m v ms vs h)))
-    (λ h. rw (le-ltb m v h) (found-next m v ms vs n h (above-found ms vs (suc n) (omega arith))))
-    (lt-or-le m v)
-
--- the lowest is 0 exactly if every value is within its limit
-pub lowest-none : (ms vs : List ℕ) → length ms ≡ length vs → firstAbove ms vs ≡ 0 → AllLow ms vs
-lowest-none ms vs e z = out z (above-found ms vs 0 e)
-  where
-    out : {r : ℕ} → r ≡ 0 → Found ms vs 0 r → AllLow ms vs
-    out q (none a) = a
-    out q (at k f) = absurd (omega arith)
-
-pub none-lowest : (ms vs : List ℕ) → length ms ≡ length vs → AllLow ms vs → firstAbove ms vs ≡ 0
-none-lowest ms vs e a = out (above-found ms vs 0 e)
-  where
-    out : {r : ℕ} → Found ms vs 0 r → r ≡ 0
-    out (none b) = refl
-    out (at k f) = absurd (omega (arith, a k (f .inside), f .over))
-
--- and n + 1 only if the value n is the first above
-pub lowest-first : (ms vs : List ℕ) (n : ℕ) → length ms ≡ length vs → firstAbove ms vs ≡ suc n → First ms vs n
-lowest-first ms vs n e z = out z (above-found ms vs 0 e)
-  where
-    out : {r : ℕ} → r ≡ suc n → Found ms vs 0 r → First ms vs n
-    out q (none a) = absurd (omega arith)
-    out q (at k f) = let i : n ≡ k = omega arith in rw i f
+pub fit-fields : (l : List ℕ) (ps : List Span) → Means (fit ps (fields l ps))
+fit-fields l ps = (length-fields l ps, λ i h. rw (getD-fields l ps i h) (fits-back (nth ps i) _ (field-lt l (nth ps i .0) (nth ps i .1))))
 
 -- a list that is all of the bytes
 pub stores-whole : (ps : List Span) (m l : List ℕ) → T (endToEnd 0 ps (8 * length l)) → Bytes m → Bytes l → length m ≡ length l → stores m ps (fields l ps) ≡ l

@@ -6,12 +6,12 @@ use native.Mathlib.Omega.{arith}
 use lib.Dec.{T}
 use lib.ListN.{length, take, drop, length-drop, take-append-drop}
 use lib.Seq.{take-at, drop-at, length-take-le}
+use Rattle.rules.specs.Claim.{Means}
 use Rattle.bits.specs.Bits.{Bytes, store}
 use Rattle.bits.proofs.Laws.{length-store, bytes-store, store-part, store-append-left}
 use Rattle.fields.specs.declared.Span.{Span}
 use Rattle.fields.specs.Ends.{endToEnd}
-use Rattle.fields.specs.Fields.{stores, shifted}
-use Rattle.fields.specs.Together.{Fit}
+use Rattle.fields.specs.Fields.{stores, shifted, fit}
 use Rattle.fields.proofs.Laws.{length-stores, bytes-stores, fields-stores, stores-fields}
 use Rattle.fields.proofs.Only.{Inside}
 
@@ -65,7 +65,7 @@ part-stores l a n ps vs b h k =
     (part-around l a n (stores (part l a n) ps vs) h (length-stores (part l a n) ps vs ∙ length-take-le n (drop a l) (omega (arith, length-drop a l))))
 
 -- values that are stored already are stored again to no effect
-pub stores-again : (a : ℕ) (ps : List Span) (e : ℕ) → T (endToEnd a ps e) → (l vs : List ℕ) → Bytes l → e ≤ 8 * length l → Fit ps vs
+pub stores-again : (a : ℕ) (ps : List Span) (e : ℕ) → T (endToEnd a ps e) → (l vs : List ℕ) → Bytes l → e ≤ 8 * length l → Means (fit ps vs)
     → stores (stores l ps vs) ps vs ≡ stores l ps vs
 stores-again a ps e t l vs b h f =
     ap (λ (z : List ℕ). stores (stores l ps vs) ps z) (sym (fields-stores a ps e t l vs h f)) ∙ stores-fields (stores l ps vs) ps (bytes-stores l ps vs b)

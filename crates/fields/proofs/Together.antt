@@ -11,13 +11,14 @@ use lib.Arith.{digits-lt}
 use lib.Dec.{T}
 use lib.ListN.{length, getD, take}
 use lib.Pow.{pow-add, pow-mono}
+use Rattle.rules.specs.Claim.{Means}
 use Rattle.bits.specs.Bits.{Bytes, field, store}
 use Rattle.bits.proofs.Laws.{lt-or-le, digit-field, bit-store-out, field-add, field-store, field-store-apart, field-zero, store-field, store-is, length-store, bytes-store}
 use Rattle.fields.specs.declared.Span.{Span}
 use Rattle.fields.specs.Ends.{endToEnd}
 use Rattle.fields.specs.Lists.{nth}
-use Rattle.fields.specs.Fields.{stores}
-use Rattle.fields.specs.Together.{Fit, wide, together}
+use Rattle.fields.specs.Fields.{stores, fit}
+use Rattle.fields.specs.Together.{wide, together}
 use Rattle.fields.proofs.Joined.{head-of, tail-of, within}
 use Rattle.fields.proofs.Laws.{fits, length-stores, bytes-stores}
 
@@ -80,9 +81,9 @@ module _ (a : ℕ) (ps : List Span) (e : ℕ) (t : T (endToEnd a ps e)) where
   place-of i (suc n) h =
       rw (add-suc i n) (omega (arith, place-of i n (omega arith), meets a ps e t (i + n) (omega arith)))
 
-  module _ (vs : List ℕ) (f : Fit ps vs) where
+  module _ (vs : List ℕ) (f : Means (fit ps vs)) where
     value-lt : (i : ℕ) → i < length ps → getD vs i 0 < 2 ^ nth ps i .1
-    value-lt i h = fits (nth ps i) (getD vs i 0) (f .low i h)
+    value-lt i h = fits (nth ps i) (getD vs i 0) (f .1 i h)
 
     pub together-lt : (i n : ℕ) → i + n ≤ length ps → together ps vs i n < 2 ^ wide ps i n
     unfolding wide together
@@ -113,7 +114,7 @@ module _ (a : ℕ) (ps : List Span) (e : ℕ) (t : T (endToEnd a ps e)) where
         let w = within a ps e t (i + n) k in
         let q = place-of i n k in
         rw (add-suc i n)
-        (stores-next l ps vs (i + n) k (omega (arith, f .many))
+        (stores-next l ps vs (i + n) k (omega (arith, f .0))
         ∙ ap₂ (λ (z : List ℕ) (p : ℕ). store z p (nth ps (i + n) .1) (getD vs (i + n) 0)) (stores-together l b r i n (omega arith)) q
         ∙ store-joined m (nth ps i .0) (wide ps i n) (nth ps (i + n) .1) (together ps vs i n) (getD vs (i + n) 0)
         (omega (arith, w .1, length-stores l (take i ps) (take i vs))) (together-lt i n (omega arith)) (value-lt (i + n) k))

@@ -20,7 +20,7 @@ use Rattle.fields.specs.declared.Layout.{Layout}
 use Rattle.fields.specs.declared.Span.{Span}
 use Rattle.fields.specs.Lists.{listOf}
 use Rattle.fields.specs.Ends.{endToEnd}
-use Rattle.fields.specs.Fields.{fields, stores, fit, packRules}
+use Rattle.fields.specs.Fields.{fields, stores, fit, fitRules}
 use Rattle.fields.specs.Packed.{packNumber, packed}
 use Rattle.fields.proofs.Laws.{fields-stores, stores-whole, fit-fields}
 
@@ -45,6 +45,11 @@ fit-taken k vs z = go (holds (fit (listOf k) vs)) refl
     go true e = holds-means (fit (listOf k) vs) e
     go false e = absurd (let q : 26 ≡ 0 = (rw e at z) in omega arith)
 
+-- the same, of a number that was found
+pub number-fits : (k : Layout) (vs : List ℕ) {n : ℕ} → n ≡ first (fitRules k vs) → n ≡ 0 → Means (fit (listOf k) vs)
+unfolding packNumber
+number-fits k vs e z = fit-taken k vs (sym e ∙ z)
+
 -- refused exactly where a value is too wide, and the number is 26
 pub packed-exactly : (k : Layout) (vs : List ℕ) → ((packNumber k vs ≡ 0) ↔ Means (fit (listOf k) vs)) × ((packNumber k vs ≡ 26) ↔ (Means (fit (listOf k) vs) → ⊥))
 packed-exactly k vs = (
@@ -56,29 +61,25 @@ stored : (n : ℕ) (l : List ℕ) (ps : List Span) (vs : List ℕ) → n ≡ 0 �
 stored n l ps vs e = rw e
 
 -- the number, as an encoder gives it: with entry 0
-pub pack-exactly : (k : Layout) (vs : List ℕ) (n e : ℕ) → ((packNumber k vs ≡ n) × (0 ≡ e)) ↔ Answers (packRules k vs) n e
+pub pack-exactly : (k : Layout) (vs : List ℕ) (n e : ℕ) → ((packNumber k vs ≡ n) × (0 ≡ e)) ↔ Answers (fitRules k vs) n e
 unfolding packNumber
-pack-exactly k vs = answers-exactly (packRules k vs) (omega arith, tt)
+pack-exactly k vs = answers-exactly (fitRules k vs) (omega arith, tt)
 
 -- refused, the bytes are zeros
 pub packed-zeros : (k : Layout) (n : ℕ) (vs : List ℕ) → packNumber k vs ≢ 0 → packed k n vs ≡ replicate n 0
 packed-zeros k n vs h = refused-stays (packNumber k vs) (stores (replicate n 0) (listOf k) vs) (replicate n 0) h
 
--- what is read fits
-pub fields-fit : (l : List ℕ) (ps : List Span) → Means (fit ps (fields l ps))
-fields-fit l ps = fit-fields l ps .low
-
 module _ (k : Layout) (n : ℕ) (t : T (endToEnd 0 (listOf k) (8 * n))) where
   -- decoding what was encoded gives the values back
-  pub decode-encode : (vs : List ℕ) → length vs ≡ length (listOf k) → Means (fit (listOf k) vs) → fields (packed k n vs) (listOf k) ≡ vs
-  decode-encode vs e m =
+  pub decode-encode : (vs : List ℕ) → Means (fit (listOf k) vs) → fields (packed k n vs) (listOf k) ≡ vs
+  decode-encode vs m =
       ap (λ (l : List ℕ). fields l (listOf k)) (stored (packNumber k vs) (replicate n 0) (listOf k) vs (taken-fit k vs m))
-      ∙ fields-stores 0 (listOf k) (8 * n) t (replicate n 0) vs (omega (arith, length-replicate {A = ℕ} n 0)) (record { many = e; low = m })
+      ∙ fields-stores 0 (listOf k) (8 * n) t (replicate n 0) vs (omega (arith, length-replicate {A = ℕ} n 0)) m
 
   -- encoding what was decoded gives the bytes back, and is never refused
   pub encode-decode : (b : List ℕ) → Bytes b → length b ≡ n → (packNumber k (fields b (listOf k)) ≡ 0) × (packed k n (fields b (listOf k)) ≡ b)
   encode-decode b h e =
-      let z = taken-fit k (fields b (listOf k)) (fields-fit b (listOf k)) in
+      let z = taken-fit k (fields b (listOf k)) (fit-fields b (listOf k)) in
       let u : T (endToEnd 0 (listOf k) (8 * length b)) = rw e t in (
         z,
         stored (packNumber k (fields b (listOf k))) (replicate n 0) (listOf k) (fields b (listOf k)) z

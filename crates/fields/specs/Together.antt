@@ -1,16 +1,9 @@
--- An annex: values that fit their places, and neighbouring fields as one number: each value behind the digits of those before it. Assumes nothing.
-use mathlib.Core.Path.{_≡_}
-use Prim.Native.Nat.{ℕ, zero, suc, _+_, _*_, _^_, _≤_, _<_}
+-- An annex: neighbouring fields as one number: each value behind the digits of those before it. Assumes nothing.
+use Prim.Native.Nat.{ℕ, zero, suc, _+_, _*_, _^_}
 use mathlib.Core.List.{List}
-use lib.ListN.{length, getD}
+use lib.ListN.{getD}
 use Rattle.fields.specs.declared.Span.{Span}
 use Rattle.fields.specs.Lists.{nth}
-use Rattle.fields.specs.Fields.{limitOf}
-
--- as many values as places, none above its limit
-pub record Fit (ps : List Span) (vs : List ℕ) : Type 0 where
-  pub many : length vs ≡ length ps
-  pub low : (i : ℕ) → i < length ps → getD vs i 0 ≤ limitOf (nth ps i)
 
 -- how many bits the n places from the place i on have
 unfoldable pub wide : List Span → ℕ → ℕ → ℕ

@@ -205,7 +205,7 @@ pub fn largest(p: Span) -> u64
 }
 
 // The largest value of the field i.
-fn limit(k: Layout, i: usize) -> u64
+pub fn limit(k: Layout, i: usize) -> u64
     requires { ⌜ i < length (listOf k) ⌝ }
     ensures { λ r. ⌜ r ≡ limitOf (nth (listOf k) i) ⌝ }
 {

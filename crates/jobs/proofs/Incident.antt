@@ -13,7 +13,6 @@ use Rattle.chains.specs.Products as products
 use Rattle.crc.specs.Crc.{clock, clocks, register, crc}
 use Rattle.rules.specs.First.{all, first}
 use Rattle.rules.specs.Lowest.{lowest}
-use Rattle.ticket.specs.Kind.{mostOf}
 use Rattle.image.specs.Image.{stated, version, copy, shellValues, dataset, B, S, e#, SCTL, shellPad, SECR, beforeSECR, sectorAt, directoryAt, entryAt, tableAt, element, tablePad, chain, sectors, mark, sector, joined, product}
 use Rattle.rules.specs.Answer.{says}
 use Rattle.rules.specs.declared.Answer.{Answer}
@@ -36,7 +35,7 @@ card a =
 
 -- what is to be computed
 judge : List ℕ → Step → Answer
-unfolding answer seen productAt elementAt stepRules verdict rules first all stated version copy shellValues fields dataset B S e# SCTL shellPad SECR beforeSECR sectorAt directoryAt entryAt tableAt isProduct Ψ tableBytes element tablePad chain sectors mark sector joined product brokenAt sharesAt products.brokenAt products.sharesAt member products.meet products.some lowest field number bit digit leadingZeros walkOn link crc register clocks clock mostOf
+unfolding answer seen productAt elementAt stepRules verdict rules first all stated version copy shellValues fields dataset B S e# SCTL shellPad SECR beforeSECR sectorAt directoryAt entryAt tableAt isProduct Ψ tableBytes element tablePad chain sectors mark sector joined product brokenAt sharesAt products.brokenAt products.sharesAt member products.meet products.some lowest field number bit digit leadingZeros walkOn link crc register clocks clock
 judge c s = answer c s
 
 -- with rule 11 every step on it is refused

@@ -71,7 +71,7 @@ module _ (c : List ℕ) (bytes : Bytes c) (o : Obeys c) where
   unfolding dataset shellValues
   shell-taken n h =
       shell-round.encode-taken (shellValues c) n .1 (
-        fit-fields (drop 4 c) lists.shell .low,
+        fit-fields (drop 4 c) lists.shell,
         (obeys .bit-map-zero, (obeys .dataset-least, (obeys .iin, (obeys .issn, (obeys .chd, (h, tt)))))),
       )
 

@@ -3,7 +3,7 @@
 use native.Mathlib.Omega.{arith}
 use lib.ListN.{length}
 use Rattle.rules.proofs.AnswerLaws.{refused-stays}
-use Rattle.fields.specs.declared.Layout.the-variants.{Entry, Head, Tail, Header}
+use Rattle.fields.specs.declared.Layout.the-variants.{Entry, Head, Tail, Header, Typ23}
 use Rattle.fields.proofs.Whole.{pack-exactly, packed-zeros}
 use Rattle.dates.proofs.Exactly.{date-exactly, undated-zeros, twenty-nine, no-entry, unstamped-zero}
 use Rattle.shell.proofs.Round as shell
@@ -49,7 +49,7 @@ demand1 = record {
   encode-head = λ vs. (pack-exactly Head vs, packed-zeros Head 2 vs);
   encode-tail = λ vs. (pack-exactly Tail vs, packed-zeros Tail 6 vs);
   encode-header = λ vs. (pack-exactly Header vs, packed-zeros Header 2 vs);
-  encode-ticket = λ t. (ticket.encode-exactly t, ticket.refused-zeros t);
+  encode-ticket = λ t. (pack-exactly Typ23 (t .values), ticket.refused-zeros t);
   encode-table = λ s es l. (table.encode-exactly s es (length l), refused-stays _ _ l);
   decode-table = λ s b. (table.decode-exactly s b, table.undecoded-zeros s b);
   date-of = λ s. (date-exactly s, undated-zeros s);

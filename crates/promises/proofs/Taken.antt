@@ -30,15 +30,17 @@ use Rattle.image.proofs.First.{product-size}
 use Rattle.reads.proofs.Values as values
 use Rattle.reads.proofs.Encoded as encoded
 use Rattle.reads.proofs.Agree.{empty-refused}
-use Rattle.steps.specs.Step.{write, setMark}
+use Rattle.steps.specs.Step.{setMark}
 use Rattle.steps.proofs.Acts.{zero-taken, next-is}
 use Rattle.steps.proofs.Frame.{frame, length-next, after-table}
 use Rattle.steps.proofs.Keeps.{all-stays, mark-own}
 use Rattle.steps.proofs.Written as written
 use Rattle.worked.specs.Cards.{smallCard, largest}
 use Rattle.worked.specs.Told.{used}
+use Rattle.worked.specs.Night.{latest}
 use Rattle.worked.proofs.Sizes.{smallest-obeys, largest-obeys}
 use Rattle.worked.proofs.Told.{used-steps}
+use Rattle.worked.proofs.Night.{latest-end}
 use Rattle.promises.specs.Demands.{Demand2}
 use Rattle.promises.proofs.Encoded as whole
 use Rattle.promises.proofs.ReadAgain.{record-read-again, field-read-again}
@@ -58,7 +60,7 @@ demand2 = record {
       let r = values.chain-read c j z in
       (r .0, r .1, r .2 ∙ ap (λ (l : List ℕ). sectors c j ++ l) (drop-zeros (length (sectors c j)) 252));
   ticket-read = values.ticket-read;
-  ticket-end = values.end-read;
+  ticket-end = let x = latest-end in (values.end-read, (latest, x .0, x .1));
   buffer-read = values.buffer-read;
   fill-read = values.fill-read;
   rest-read = values.rest-read;
@@ -76,11 +78,11 @@ demand2 = record {
   header-same = encoded.header-encoded;
   ticket-same = encoded.ticket-encoded;
   date-same = λ s h. let e = stamp-again s h in (ap (λ (x : Stamped). x .number) e, ap (λ (x : Stamped). x .stamp) e);
-  shell-written = λ vs l n z. (shell.encoded vs l z, ap (λ (s : Shell). s .values) (shell.decode-encode vs l z n));
-  entry-written = λ vs n z. (rw z, directory.entry-back vs n (directory.entry-exactly vs .0 .0 z));
-  head-written = λ vs n z. (rw z, directory.head-back vs n (directory.head-exactly vs .0 .0 z));
-  tail-written = λ vs n z. (rw z, directory.tail-back vs n (directory.tail-exactly vs .0 .0 z));
-  header-written = λ vs n z. (rw z, header.header-back vs n (header.header-exactly vs .0 .0 z));
+  shell-written = λ vs l z. (shell.encoded vs l z, ap (λ (s : Shell). s .values) (shell.decode-encode vs l z));
+  entry-written = λ vs z. (rw z, directory.entry-back vs (directory.entry-exactly vs .0 .0 z));
+  head-written = λ vs z. (rw z, directory.head-back vs (directory.head-exactly vs .0 .0 z));
+  tail-written = λ vs z. (rw z, directory.tail-back vs (directory.tail-exactly vs .0 .0 z));
+  header-written = λ vs z. (rw z, header.header-back vs (header.header-exactly vs .0 .0 z));
   ticket-written = λ t z.
       let f = ticket.taken-fits t z in
       (ap (λ (x : Encoded). x .bytes) (ticket.taken t f), ticket.decode-encode t f);
@@ -89,8 +91,7 @@ demand2 = record {
   value-set = λ t n v z. ap (λ (u : Record). u .values) (taken-next t n v z);
   value-read = taken-value;
   record-again = record-read-again;
-  field-again = λ c j n v b z. written.field-read c b j n v (zero-taken c (write j n v) z);
-  field-read-again = field-read-again;
+  field-again = field-read-again;
   stored = λ c s z. next-is c s (zero-taken c s z);
   again = λ c s b z. let t = zero-taken c s z in (written.again-taken c s b t, written.again c s b t);
   mark-again = λ c j m b z. mark-own c b (setMark j m) (zero-taken c (setMark j m) z);

@@ -2,15 +2,15 @@
 -- A published call's contract says that its answer and each lent byte are what the definition named here gives: `checkOf`, `readTicket`, `answer`, `next` ..
 -- `Kept.kept` proves the page, and contracts `Once` that each contract leaves no choice. An image or buffer is a list of bytes (`Bytes`). Assumes nothing.
 use mathlib.Core.Path.{_≡_}
-use mathlib.Core.Logic.{_↔_, _≢_, _⊎_}
+use mathlib.Core.Logic.{_↔_, _≢_}
 use mathlib.Core.List.{List, [], _∷_, _++_}
 use Prim.Native.Nat.{ℕ, _+_, _-_, _*_, _^_, _≤_, _<_}
 use lib.ListN.{length, getD, set, take, drop, replicate}
 use Rattle.rules.specs.Claim.{_≤?_, rule, Answers}
 use Rattle.bits.specs.Bits.{Bytes, digit, bit, field, store, Outside}
 use Rattle.fields.specs.Lists as lists
-use Rattle.fields.specs.Fields.{fields, stores, packRules}
-use Rattle.fields.specs.declared.Layout.the-variants.{Entry, Head, Tail, Header}
+use Rattle.fields.specs.Fields.{fields, stores, fitRules}
+use Rattle.fields.specs.declared.Layout.the-variants.{Entry, Head, Tail, Header, Typ23}
 use Rattle.crc.specs.Crc.{crc}
 use Rattle.dates.specs.Calendar.{date, stampDate, dated, dateOf, stampOf}
 use Rattle.dates.specs.Impossible.{Unstamped}
@@ -21,7 +21,7 @@ use Rattle.shell.specs.Encode as shell-call
 use Rattle.directory.specs.Records.{entryBytes, entryIn, headBytes, headIn, tailBytes, tailIn}
 use Rattle.table.specs.Table as table
 use Rattle.table.specs.Coded as table-call
-use Rattle.ticket.specs.Kind.{fieldRule, setRules, recordRule}
+use Rattle.ticket.specs.Kind.{fieldRule, setRules}
 use Rattle.ticket.specs.Ticket as ticket
 use Rattle.ticket.specs.Ticket.{setOf, valueOf, headerBytes, headerIn}
 use Rattle.ticket.specs.declared.Record.{Record}
@@ -30,7 +30,7 @@ use Rattle.image.specs.Product.{elementAt, productAt}
 use Rattle.image.specs.Obeys.{IsProduct, Obeys, Says, Gives}
 use Rattle.image.specs.Answer.{numberOf, entryOf, valuesOf}
 use Rattle.image.specs.Check.{checkOf}
-use Rattle.reads.specs.Values.{directoryValues, entryValues, ticketRules, timeIn, ticketEnd, extent}
+use Rattle.reads.specs.Values.{directoryValues, entryValues, ticketRules, ticketEnd, extent}
 use Rattle.reads.specs.Card.{readShell, readDirectory, readTable}
 use Rattle.reads.specs.Entry.{readEntry, readChain}
 use Rattle.reads.specs.Ticket.{readTicket, bufferAfter, fillOf, rest, restAt}
@@ -61,10 +61,10 @@ pub record Demand1 : Type 0 where
       → Exactly (readEntry c j .number) (readEntry c j .entry) (Gives c j (λ p. [])) × (readEntry c j .number ≢ 0 → readEntry c j .values ≡ replicate 7 0)
   pub read-chain : (c : List ℕ) (j : ℕ) → Exactly (readChain c j .number) (readChain c j .entry) (Gives c j (λ p. []))
       × (readChain c j .number ≢ 0 → (readChain c j .mark ≡ 0) × (readChain c j .count ≡ 0) × (readChain c j .sectors ≡ replicate 252 0))
-  pub read-ticket : (c : List ℕ) (j room : ℕ) → Exactly (readTicket c j room .number) (readTicket c j room .entry) (Gives c j (ticketRules room (timeIn c j)))
+  pub read-ticket : (c : List ℕ) (j room : ℕ) → Exactly (readTicket c j room .number) (readTicket c j room .entry) (Gives c j (ticketRules room))
       × (readTicket c j room .number ≢ 0 → (readTicket c j room .header ≡ replicate 3 0) × (readTicket c j room .values ≡ replicate 22 0)
       × (readTicket c j room .end ≡ 0) × (readTicket c j room .mark ≡ 0) × (readTicket c j room .sectors ≡ 0))
-  pub fill : (c : List ℕ) (j room : ℕ) → Exactly (fillOf c j room .number) (fillOf c j room .entry) (Gives c j (ticketRules room (timeIn c j)))
+  pub fill : (c : List ℕ) (j room : ℕ) → Exactly (fillOf c j room .number) (fillOf c j room .entry) (Gives c j (ticketRules room))
       × (fillOf c j room .number ≢ 0 → fillOf c j room .end ≡ 0)
   -- the buffer b after read_ticket or fill; what is lent to be read alone no call can write
   pub buffer : (c : List ℕ) (j : ℕ) (b : List ℕ) → readTicket c j (length b) .number ≢ 0 → bufferAfter c j b ≡ b
@@ -83,14 +83,14 @@ pub record Demand1 : Type 0 where
   pub encode-shell : (vs l : List ℕ) → Exactly (shell-call.encodeNumber vs (length l)) 0 (Answers (shell.encodeRules vs (length l)))
       × (shell-call.encodeNumber vs (length l) ≢ 0 → shell-call.encodeIn vs l ≡ l)
   pub encode-entry : (vs : List ℕ)
-      → Exactly (entryBytes vs .number) (entryBytes vs .entry) (Answers (packRules Entry vs)) × (entryBytes vs .number ≢ 0 → entryBytes vs .bytes ≡ replicate 5 0)
+      → Exactly (entryBytes vs .number) (entryBytes vs .entry) (Answers (fitRules Entry vs)) × (entryBytes vs .number ≢ 0 → entryBytes vs .bytes ≡ replicate 5 0)
   pub encode-head : (vs : List ℕ)
-      → Exactly (headBytes vs .number) (headBytes vs .entry) (Answers (packRules Head vs)) × (headBytes vs .number ≢ 0 → headBytes vs .bytes ≡ replicate 2 0)
+      → Exactly (headBytes vs .number) (headBytes vs .entry) (Answers (fitRules Head vs)) × (headBytes vs .number ≢ 0 → headBytes vs .bytes ≡ replicate 2 0)
   pub encode-tail : (vs : List ℕ)
-      → Exactly (tailBytes vs .number) (tailBytes vs .entry) (Answers (packRules Tail vs)) × (tailBytes vs .number ≢ 0 → tailBytes vs .bytes ≡ replicate 6 0)
+      → Exactly (tailBytes vs .number) (tailBytes vs .entry) (Answers (fitRules Tail vs)) × (tailBytes vs .number ≢ 0 → tailBytes vs .bytes ≡ replicate 6 0)
   pub encode-header : (vs : List ℕ)
-      → Exactly (headerBytes vs .number) (headerBytes vs .entry) (Answers (packRules Header vs)) × (headerBytes vs .number ≢ 0 → headerBytes vs .bytes ≡ replicate 2 0)
-  pub encode-ticket : (t : Record) → Exactly (ticket.encodeOf t .number) (ticket.encodeOf t .entry) (Answers (recordRule (t .values) ∷ []))
+      → Exactly (headerBytes vs .number) (headerBytes vs .entry) (Answers (fitRules Header vs)) × (headerBytes vs .number ≢ 0 → headerBytes vs .bytes ≡ replicate 2 0)
+  pub encode-ticket : (t : Record) → Exactly (ticket.encodeOf t .number) (ticket.encodeOf t .entry) (Answers (fitRules Typ23 (t .values)))
       × (ticket.encodeOf t .number ≢ 0 → ticket.encodeOf t .bytes ≡ replicate 27 0)
   pub encode-table : (s : ℕ) (es l : List ℕ) → Exactly (table-call.encodeNumber s es (length l)) 0 (Answers (table.encodeRules s es (length l)))
       × (table-call.encodeNumber s es (length l) ≢ 0 → table-call.encodeIn s es l ≡ l)
@@ -122,7 +122,8 @@ pub record Demand2 : Type 0 where
   pub ticket-read : (c : List ℕ) (j room : ℕ) → readTicket c j room .number ≡ 0
       → (readTicket c j room .header ≡ fields (product c j) lists.head) × (readTicket c j room .values ≡ fields (product c j) lists.typ23)
       × (readTicket c j room .end ≡ ticketEnd c j) × (readTicket c j room .mark ≡ mark c j) × (readTicket c j room .sectors ≡ length (sectors c j))
-  pub ticket-end : (c : List ℕ) (j room : ℕ) → readTicket c j room .end ≤ 23594399
+  -- the end of a ticket, T-01: "now at most 23,595,007", and there is a card whose ticket ends then
+  pub ticket-end : ((c : List ℕ) (j room : ℕ) → readTicket c j room .end ≤ 23595007) × ((c : List ℕ) × Bytes c × (readTicket c 1 (length (product c 1)) .end ≡ 23595007))
   pub buffer-read : (c : List ℕ) (j : ℕ) (b : List ℕ) → readTicket c j (length b) .number ≡ 0 → bufferAfter c j b ≡ product c j ++ drop (length (product c j)) b
   pub fill-read : (c : List ℕ) (j room : ℕ) → fillOf c j room .number ≡ 0 → fillOf c j room .end ≡ extent c j
   pub rest-read : (c : List ℕ) (j room : ℕ) → readTicket c j room .number ≡ 0 → (rest c j room ≡ take (extent c j - 29) (drop 29 (product c j))) × (restAt c j room ≡ 29)
@@ -153,15 +154,15 @@ pub record Demand2 : Type 0 where
   pub date-same : (s : ℕ) → s ≤ 16383
       → (stampOf (dateOf s .year) (dateOf s .month) (dateOf s .day) .number ≡ 0) × (stampOf (dateOf s .year) (dateOf s .month) (dateOf s .day) .stamp ≡ s)
   -- what an encoder writes, and document 01: "Decoding what these wrote .. gives the values back"
-  pub shell-written : (vs l : List ℕ) → length vs ≡ 16 → shell-call.encodeNumber vs (length l) ≡ 0
+  pub shell-written : (vs l : List ℕ) → shell-call.encodeNumber vs (length l) ≡ 0
       → (shell-call.encodeIn vs l ≡ shell.encodedShell vs ++ drop (shell.datasetOf vs) l) × (shell-call.decodeOf (take 20 (shell-call.encodeIn vs l)) .values ≡ vs)
-  pub entry-written : (vs : List ℕ) → length vs ≡ 7 → entryBytes vs .number ≡ 0
+  pub entry-written : (vs : List ℕ) → entryBytes vs .number ≡ 0
       → (entryBytes vs .bytes ≡ stores (replicate 5 0) lists.entry vs) × (entryIn (entryBytes vs .bytes) .values ≡ vs)
-  pub head-written : (vs : List ℕ) → length vs ≡ 3 → headBytes vs .number ≡ 0
+  pub head-written : (vs : List ℕ) → headBytes vs .number ≡ 0
       → (headBytes vs .bytes ≡ stores (replicate 2 0) lists.head vs) × (headIn (headBytes vs .bytes) .values ≡ vs)
-  pub tail-written : (vs : List ℕ) → length vs ≡ 4 → tailBytes vs .number ≡ 0
+  pub tail-written : (vs : List ℕ) → tailBytes vs .number ≡ 0
       → (tailBytes vs .bytes ≡ stores (replicate 6 0) lists.tail vs) × (tailIn (tailBytes vs .bytes) .values ≡ vs)
-  pub header-written : (vs : List ℕ) → length vs ≡ 3 → headerBytes vs .number ≡ 0
+  pub header-written : (vs : List ℕ) → headerBytes vs .number ≡ 0
       → (headerBytes vs .bytes ≡ stores (replicate 2 0) lists.head vs) × (headerIn (headerBytes vs .bytes) .values ≡ vs)
   pub ticket-written : (t : Record) → ticket.encodeOf t .number ≡ 0
       → (ticket.encodeOf t .bytes ≡ drop 2 (stores (replicate 29 0) lists.typ23 (t .values))) × (ticket.decodeOf (ticket.encodeOf t .bytes) ≡ t)
@@ -174,11 +175,10 @@ pub record Demand2 : Type 0 where
   -- "A ticket record that fits its fields, once a write of it has been taken, is read again as it was, given a buffer that holds its product."
   pub record-again : (c : List ℕ) (j : ℕ) (vs : List ℕ) (room : ℕ) → Bytes c → answer c (writeAll j vs) .number ≡ 0 → length (product c j) ≤ room
       → (readTicket (next c (writeAll j vs)) j room .number ≡ 0) × (readTicket (next c (writeAll j vs)) j room .values ≡ vs)
-  pub field-again : (c : List ℕ) (j n v : ℕ) → Bytes c → answer c (write j n v) .number ≡ 0
-      → fields (product (next c (write j n v)) j) lists.typ23 ≡ set (fields (product c j) lists.typ23) (n - 1) v
-  -- the read after it is taken too, but for the house rule: an ExpiryTime of 1,440 or more that stood there and was not the field written
-  pub field-read-again : (c : List ℕ) (j n v room : ℕ) → Bytes c → answer c (write j n v) .number ≡ 0 → length (product c j) ≤ room
-      → (n ≡ 9) ⊎ (timeIn c j < 1440) → readTicket (next c (write j n v)) j room .number ≡ 0
+  -- and a field write likewise: the new value there, the others as they were
+  pub field-again : (c : List ℕ) (j n v room : ℕ) → Bytes c → answer c (write j n v) .number ≡ 0 → length (product c j) ≤ room
+      → (readTicket (next c (write j n v)) j room .number ≡ 0)
+      × (readTicket (next c (write j n v)) j room .values ≡ set (fields (product c j) lists.typ23) (n - 1) v)
   -- what a taken step stores; that the same step again is taken and changes nothing; the mark that is read then
   pub stored : (c : List ℕ) (s : Step) → answer c s .number ≡ 0
       → next c s ≡ stores c (target (productAt c (owner s)) s) (newValues (productAt c (owner s)) s)

@@ -11,7 +11,7 @@ use Rattle.image.specs.Image.{mark, product}
 use Rattle.image.specs.Product.{productAt}
 use Rattle.image.specs.Obeys.{Obeys, IsProduct, Gives, taken}
 use Rattle.rules.specs.Claim.{Kept}
-use Rattle.reads.specs.Values.{ticketRules, timeIn, extent}
+use Rattle.reads.specs.Values.{ticketRules, extent}
 use Rattle.reads.specs.Ticket.{ticketRefusal, readTicket, fillOf, restBy, rest}
 use Rattle.reads.proofs.Passed.{passed}
 use Rattle.reads.proofs.Exactly.{ticket-exactly}
@@ -22,7 +22,7 @@ module _ (c : List ℕ) (j room : ℕ) where
   unfolding fillOf readTicket
   same-refusal = (refl, refl)
 
-  pub fill-exactly : (n e : ℕ) → ((fillOf c j room .number ≡ n) × (fillOf c j room .entry ≡ e)) ↔ Gives c j (ticketRules room (timeIn c j)) n e
+  pub fill-exactly : (n e : ℕ) → ((fillOf c j room .number ≡ n) × (fillOf c j room .entry ≡ e)) ↔ Gives c j (ticketRules room) n e
   unfolding fillOf
   fill-exactly n e = ticket-exactly c j room n e
 
@@ -43,7 +43,7 @@ module _ (c : List ℕ) (j room : ℕ) where
       back (suc n) z h = rw z
 
   -- a blocked product is read
-  pub blocked-read : Obeys c → IsProduct c j → mark c j ≡ 2 → Kept (ticketRules room (timeIn c j) (productAt c j))
+  pub blocked-read : Obeys c → IsProduct c j → mark c j ≡ 2 → Kept (ticketRules room (productAt c j))
       → (readTicket c j room .number ≡ 0) × (readTicket c j room .mark ≡ 2)
   unfolding readTicket
   blocked-read o v m k = let z = ticket-exactly c j room 0 0 .1 (taken o v k) .0 in rw (z, m) (refl, refl)

@@ -1,10 +1,10 @@
 -- Encoding what was read gives the bits back: what is read of a record is all that its bytes hold, and the ends of a dataset and of a chain
 -- table are those that an accepted image has. Assumes nothing.
-use mathlib.Core.Path.{_≡_, refl, sym, ap, _∙_}
+use mathlib.Core.Path.{_≡_, sym, ap, _∙_}
 use mathlib.Core.List.{List, _∷_}
 use Prim.Native.Nat.{ℕ, _+_, _-_, _*_, _≤_, _<_}
 use native.Mathlib.Omega.{arith}
-use lib.ListN.{length, getD, take, drop, length-drop}
+use lib.ListN.{length, take, drop, length-drop}
 use lib.Seq.{length-take-le, take-at, drop-at}
 use Rattle.bits.specs.Bits.{Bytes, bit}
 use Rattle.bits.proofs.Laws.{bit-drop, bit-part, bytes-take, bytes-drop}
@@ -15,18 +15,17 @@ use Rattle.fields.specs.Lists.{listOf, bitAfter}
 use Rattle.fields.specs.Ends.{startOf}
 use Rattle.fields.specs.Fields.{fields}
 use Rattle.fields.proofs.Joined.{lists-joined}
-use Rattle.fields.proofs.Laws.{length-fields, getD-fields}
+use Rattle.fields.proofs.Laws.{length-fields}
 use Rattle.fields.proofs.Same.{fields-same, fields-front}
 use Rattle.directory.specs.Records.{entryBytes, headBytes, tailBytes}
 use Rattle.directory.proofs.Round.{entry-again, head-again, tail-again}
 use Rattle.ticket.specs.Ticket.{headerBytes, recordIn, encodeOf, encoded}
 use Rattle.ticket.proofs.HeaderRound.{header-again}
-use Rattle.ticket.proofs.Round.{timeOf, encode-decode}
+use Rattle.ticket.proofs.Round.{encode-decode}
 use Rattle.ticket.specs.declared.Record.{Record}
 use Rattle.image.specs.Image.{SCTL, directoryAt, entryAt, tableAt, sectors, product}
 use Rattle.image.specs.Obeys.{Obeys}
 use Rattle.image.specs.Product.{productAt}
-use Rattle.ticket.proofs.Limits.{limit-time}
 use Rattle.image.proofs.Accepted.{facts-bounds}
 use Rattle.image.proofs.Exact.{accepted-exactly, obeys-facts}
 use Rattle.image.proofs.First.{bytes-joined}
@@ -126,12 +125,4 @@ module _ (c : List ℕ) (j room : ℕ) (bytes : Bytes c) (z : readTicket c j roo
   unfolding readTicket
   ticket-encoded =
       ap encodeOf record-is
-      ∙ encode-decode (part (product c j) 2 27) (part-bytes (product c j) 2 27 (bytes-product c j bytes)) (part-length (product c j) 2 27 (omega (arith, long))) in-day
-    where
-      in-day : timeOf (part (product c j) 2 27) < 1440
-      in-day =
-          let k = passed c j room z .rules-kept in
-          let e = ap (λ (vs : List ℕ). getD vs 8 0) (ticket-fields (product c j)) in
-          let f = getD-fields (0 ∷ 0 ∷ part (product c j) 2 27) lists.typ23 8 (omega arith) in
-          let g = getD-fields (product c j) lists.typ23 8 (omega arith) in
-          omega (arith, e, f, g, k .1 .1 .1 .1 .1 .0, limit-time 9 refl)
+      ∙ encode-decode (part (product c j) 2 27) (part-bytes (product c j) 2 27 (bytes-product c j bytes)) (part-length (product c j) 2 27 (omega (arith, long)))

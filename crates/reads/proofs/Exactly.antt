@@ -6,16 +6,16 @@ use Prim.Native.Nat.{ℕ}
 use Rattle.image.specs.Obeys.{Gives}
 use Rattle.image.specs.Product.{productAt}
 use Rattle.image.proofs.Asked.{asked-exactly}
-use Rattle.reads.specs.Values.{ticketRules, timeIn}
+use Rattle.reads.specs.Values.{ticketRules}
 use Rattle.reads.specs.Entry.{entryRefusal}
 use Rattle.reads.specs.Ticket.{ticketRefusal}
 use Rattle.reads.proofs.Passed.{rules-numbered}
 
--- a ticket read: 20, 21, 22, 23, 24
+-- a ticket read: 20, 21, 22, 23
 pub ticket-exactly : (c : List ℕ) (j room n e : ℕ)
-    → ((ticketRefusal c j room .number ≡ n) × (ticketRefusal c j room .entry ≡ e)) ↔ Gives c j (ticketRules room (timeIn c j)) n e
+    → ((ticketRefusal c j room .number ≡ n) × (ticketRefusal c j room .entry ≡ e)) ↔ Gives c j (ticketRules room) n e
 unfolding ticketRefusal
-ticket-exactly c j room = asked-exactly c j (ticketRules room (timeIn c j)) (rules-numbered room (timeIn c j) (productAt c j))
+ticket-exactly c j room = asked-exactly c j (ticketRules room) (rules-numbered room (productAt c j))
 
 -- a read of an entry or of its chain: 20
 pub entry-exactly : (c : List ℕ) (j n e : ℕ) → ((entryRefusal c j .number ≡ n) × (entryRefusal c j .entry ≡ e)) ↔ Gives c j (λ p. []) n e

@@ -1,4 +1,4 @@
--- A read of one product whose number is 0 has passed every check: the image is accepted, the entry is a product, and a ticket's rules 21 to 24 are kept.
+-- A read of one product whose number is 0 has passed every check: the image is accepted, the entry is a product, and a ticket's rules 21 to 23 are kept.
 -- Assumes nothing.
 use mathlib.Core.Path.{_≡_, refl}
 use mathlib.Core.Bool.{Bool, true, false}
@@ -14,17 +14,17 @@ use Rattle.image.specs.Seen.{seenBy, seen, named, judgedBy, asked}
 use Rattle.image.specs.Facts.{Present}
 use Rattle.image.proofs.Exact.{test-product, accepts}
 use Rattle.image.proofs.Stops.{kept}
-use Rattle.reads.specs.Values.{ticketRules, timeIn}
+use Rattle.reads.specs.Values.{ticketRules}
 use Rattle.reads.specs.Entry.{entryRefusal}
 use Rattle.reads.specs.Ticket.{ticketRefusal}
 
 pub record Passed (c : List ℕ) (j room : ℕ) : Type 0 where
   pub accepted : verdict c .number ≡ 0
   pub is-there : isProduct c j ≡ true
-  pub rules-kept : Kept (ticketRules room (timeIn c j) (productAt c j))
+  pub rules-kept : Kept (ticketRules room (productAt c j))
 
-pub rules-numbered : (room time : ℕ) (p : Product) → Numbered (ticketRules room time p)
-rules-numbered room time p = (omega arith, (omega arith, (omega arith, (omega arith, (omega arith, (omega arith, tt))))))
+pub rules-numbered : (room : ℕ) (p : Product) → Numbered (ticketRules room p)
+rules-numbered room p = (omega arith, (omega arith, (omega arith, (omega arith, (omega arith, tt)))))
 
 pub named-zero : (n j : ℕ) → named n j .number ≡ 0 → n ≡ 0
 named-zero zero j q = refl
@@ -36,14 +36,14 @@ module _ (c : List ℕ) (j room : ℕ) where
   passed q = go (verdict c .number) refl (isProduct c j) refl q
     where
       go : (n : ℕ) → verdict c .number ≡ n → (b : Bool) → isProduct c j ≡ b
-          → judgedBy (seenBy n (verdict c .entry) b (productAt c j)) j (ticketRules room (timeIn c j)) .number ≡ 0 → Passed c j room
+          → judgedBy (seenBy n (verdict c .entry) b (productAt c j)) j (ticketRules room) .number ≡ 0 → Passed c j room
       go (suc n) z b t w = absurd (omega arith)
       go zero z false t w = absurd (omega arith)
       go zero z true t w =
           record {
             accepted = z;
             is-there = t;
-            rules-kept = kept (ticketRules room (timeIn c j) (productAt c j)) (rules-numbered room (timeIn c j) (productAt c j)) refl (named-zero _ j w);
+            rules-kept = kept (ticketRules room (productAt c j)) (rules-numbered room (productAt c j)) refl (named-zero _ j w);
           }
 
   -- success names no entry
@@ -51,11 +51,11 @@ module _ (c : List ℕ) (j room : ℕ) where
   unfolding ticketRefusal asked seen
   passed-entry q = go (verdict c .number) (isProduct c j) q
     where
-      go : (n : ℕ) (b : Bool) → judgedBy (seenBy n (verdict c .entry) b (productAt c j)) j (ticketRules room (timeIn c j)) .number ≡ 0
-          → judgedBy (seenBy n (verdict c .entry) b (productAt c j)) j (ticketRules room (timeIn c j)) .entry ≡ 0
+      go : (n : ℕ) (b : Bool) → judgedBy (seenBy n (verdict c .entry) b (productAt c j)) j (ticketRules room) .number ≡ 0
+          → judgedBy (seenBy n (verdict c .entry) b (productAt c j)) j (ticketRules room) .entry ≡ 0
       go (suc n) b w = absurd (omega arith)
       go zero false w = absurd (omega arith)
-      go zero true w = named-entry (first (ticketRules room (timeIn c j) (productAt c j))) w
+      go zero true w = named-entry (first (ticketRules room (productAt c j))) w
         where
           named-entry : (n : ℕ) → named n j .number ≡ 0 → named n j .entry ≡ 0
           named-entry zero q = refl

@@ -10,19 +10,18 @@ use Rattle.bits.specs.Bits.{field}
 use Rattle.bits.proofs.Laws.{field-lt}
 use Rattle.fields.specs.Lists as lists
 use Rattle.fields.specs.Fields.{fields}
-use Rattle.ticket.proofs.Limits.{limit-time, end-most}
+use Rattle.ticket.proofs.Latest.{end-most}
 use Rattle.image.specs.Image.{shellValues, S, element, entryAt, sectors, mark, product}
 use Rattle.image.specs.Obeys.{Obeys}
 use Rattle.image.specs.Verdict.{verdict}
 use Rattle.image.proofs.Accepted.{facts-bounds}
 use Rattle.image.proofs.Exact.{accepted-exactly, obeys-facts}
-use Rattle.reads.specs.Values.{directoryValues, entryValues, timeIn, ticketEnd, extent}
+use Rattle.reads.specs.Values.{directoryValues, entryValues, ticketEnd, extent}
 use Rattle.reads.specs.Asked.{orZero}
 use Rattle.reads.specs.Card.{readShell, readDirectory, readTable, elements}
 use Rattle.reads.specs.Entry.{readEntry, readChain}
 use Rattle.reads.specs.Ticket.{ticketRefusal, readTicket, bufferAfter, fillOf, rest, restAt}
 use Rattle.reads.proofs.Counted.{length-counted, getD-counted}
-use Rattle.reads.proofs.Passed.{passed}
 
 -- zeros after a list, in place of as many
 zero-after : (l : List ℕ) (n i : ℕ) → length l ≤ i → getD (l ++ drop (length l) (replicate n 0)) i 0 ≡ 0
@@ -107,16 +106,15 @@ module _ (c : List ℕ) (j room : ℕ) where
   unfolding readTicket rest restAt
   rest-read z = rw z (refl, refl)
 
-  -- EXP has 14 bits, and an ExpiryTime that is read is at most 1,439
-  pub end-read : readTicket c j room .end ≤ 23594399
+  -- EXP has 14 bits, and ExpiryTime 11
+  pub end-read : readTicket c j room .end ≤ 23595007
   unfolding readTicket
-  end-read = go (ticketRefusal c j room .number) refl
+  end-read = go (ticketRefusal c j room .number)
     where
-      go : (n : ℕ) → ticketRefusal c j room .number ≡ n → orZero n (ticketEnd c j) ≤ 23594399
-      go zero z =
-          end-most (field (drop (entryAt c j) c) 26 14) (timeIn c j) (field-lt (drop (entryAt c j) c) 26 14)
-          (omega (arith, passed c j room z .rules-kept .1 .1 .1 .1 .1 .0, limit-time 9 refl))
-      go (suc n) z = omega arith
+      go : (n : ℕ) → orZero n (ticketEnd c j) ≤ 23595007
+      go zero =
+          end-most (field (drop (entryAt c j) c) 26 14) (field (product c j) 77 11) (field-lt (drop (entryAt c j) c) 26 14) (field-lt (product c j) 77 11)
+      go (suc n) = omega arith
 
 pub buffer-read : (c : List ℕ) (j : ℕ) (b : List ℕ) → readTicket c j (length b) .number ≡ 0 → bufferAfter c j b ≡ product c j ++ drop (length (product c j)) b
 unfolding readTicket bufferAfter

@@ -9,14 +9,14 @@ use Rattle.ticket.specs.Kind.{kind, restOf}
 use Rattle.image.specs.Image.{sectors, mark, product}
 use Rattle.rules.specs.declared.Answer.{Answer}
 use Rattle.image.specs.Seen.{asked}
-use Rattle.reads.specs.Values.{ticketRules, timeIn, ticketEnd, extent}
+use Rattle.reads.specs.Values.{ticketRules, ticketEnd, extent}
 use Rattle.rules.specs.Answer.{ifDone}
 use Rattle.reads.specs.Asked.{orZero, orZeros, over}
 use Rattle.reads.specs.declared.TicketRead.{TicketRead}
 use Rattle.reads.specs.declared.Filled.{Filled}
 
 unfoldable pub ticketRefusal : List ℕ → ℕ → ℕ → Answer
-ticketRefusal c j room = asked c j (ticketRules room (timeIn c j))
+ticketRefusal c j room = asked c j (ticketRules room)
 
 -- the header's three values and the ticket's twenty-two are fields of the product
 unfoldable pub readTicket : List ℕ → ℕ → ℕ → TicketRead

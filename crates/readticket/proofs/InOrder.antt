@@ -1,4 +1,4 @@
--- The checks 20 to 24, each made once those before it have passed, give the number of the first rule that is not kept. Assumes nothing.
+-- The checks 20 to 23, each made once those before it have passed, give the number of the first rule that is not kept. Assumes nothing.
 use mathlib.Core.Path.{_≡_, refl, ap, _∙_}
 use mathlib.Core.Bool.{Bool, true, false, cond, _&&_}
 use mathlib.Core.List.{List}
@@ -10,7 +10,7 @@ use Rattle.rules.specs.First.{ifKept, first}
 use Rattle.rules.proofs.ClaimLaws.{orElse}
 use Rattle.fields.specs.Fields.{valueAt}
 use Rattle.fields.specs.declared.Layout.the-variants.{Entry, Header}
-use Rattle.ticket.specs.Kind.{kind, typ, revision, leastOf, limit}
+use Rattle.ticket.specs.Kind.{kind, typ, revision, leastOf}
 use Rattle.ticket.specs.Checks.{formIn, formNumber, extentIn, extentNumber}
 use Rattle.chains.specs.Packed.{markSaid}
 use Rattle.ticket.specs.declared.Form.the-variants.{Ticket, Other}
@@ -21,50 +21,44 @@ use Rattle.image.specs.Seen.{named}
 use Rattle.image.specs.Found as image
 use Rattle.image.specs.declared.Found.the-variants.{Not}
 use Rattle.reads.specs.Ticket.{ticketRefusal}
-use Rattle.reads.specs.Values.{ticketRules, timeIn, extent}
-use Rattle.readticket.specs.Checks.{roomIn, roomNumber, minutesIn, timeNumber, statedIn, soundIn, judgedWith, judgedIn}
+use Rattle.reads.specs.Values.{ticketRules, extent}
+use Rattle.readticket.specs.Checks.{roomIn, roomNumber, statedIn, soundIn, judgedWith, judgedIn}
 use Rattle.readticket.specs.declared.checks.Stated.{Stated}
 use Rattle.readticket.specs.declared.checks.Room.the-variants.{Fits, Short}
-use Rattle.readticket.specs.declared.checks.Time.the-variants.{Minutes, Late}
 use Rattle.readticket.specs.declared.checks.Judged.the-variants.{Taken, Refused}
 use Rattle.image.proofs.Asked.{asked-there}
 use Rattle.reads.proofs.Known.{found-not}
 use Rattle.image.proofs.Founds.{Finds}
 
 -- the first rule that is not kept has the number of the first check that is not passed
-in-order : (room time : ℕ) (p : Product)
-    → first (ticketRules room time p)
-    ≡ orElse (roomNumber (roomIn (p .size) room)) (orElse (formNumber (formIn (p .typ) (p .revision))) (orElse (extentNumber (extentIn (p .blocks) (p .size))) (timeNumber (minutesIn time))))
+in-order : (room : ℕ) (p : Product)
+    → first (ticketRules room p)
+    ≡ orElse (roomNumber (roomIn (p .size) room)) (orElse (formNumber (formIn (p .typ) (p .revision))) (extentNumber (extentIn (p .blocks) (p .size))))
 unfolding first
-in-order room time p =
-    go (leb (p .size) room) (eqb (p .typ) typ) (eqb (p .revision) revision) (leb (leastOf kind) (4 * p .blocks)) (leb (4 * p .blocks) (p .size)) (leb time (limit kind 9))
+in-order room p =
+    go (leb (p .size) room) (eqb (p .typ) typ) (eqb (p .revision) revision) (leb (leastOf kind) (4 * p .blocks)) (leb (4 * p .blocks) (p .size))
   where
-    go : (r t v l s m : Bool)
-        → ifKept r (ifKept t (ifKept v (ifKept l (ifKept s (ifKept m 0 24) 23) 23) 22) 22) 21
-        ≡ orElse (roomNumber (cond r Fits Short)) (orElse (formNumber (cond (t && v) Ticket Other)) (orElse (extentNumber (cond (l && s) (End (4 * p .blocks)) Wrong)) (timeNumber (cond m (Minutes time) Late))))
-    go false t v l s m = refl
-    go true false v l s m = refl
-    go true true false l s m = refl
-    go true true true false s m = refl
-    go true true true true false m = refl
-    go true true true true true false = refl
-    go true true true true true true = refl
+    go : (r t v l s : Bool)
+        → ifKept r (ifKept t (ifKept v (ifKept l (ifKept s 0 23) 23) 22) 22) 21
+        ≡ orElse (roomNumber (cond r Fits Short)) (orElse (formNumber (cond (t && v) Ticket Other)) (extentNumber (cond (l && s) (End (4 * p .blocks)) Wrong)))
+    go false t v l s = refl
+    go true false v l s = refl
+    go true true false l s = refl
+    go true true true false s = refl
+    go true true true true false = refl
+    go true true true true true = refl
 
 -- what a check that is passed gives
 end-is : (b : Bool) (e x : ℕ) → cond b (End e) Wrong ≡ End x → x ≡ e
 end-is true e x q = cc
 end-is false e x q = absurd (let z : _≡_ {A = ℕ} 0 1 = cc in omega arith)
 
-minutes-are : (b : Bool) (t w : ℕ) → cond b (Minutes t) Late ≡ Minutes w → w ≡ t
-minutes-are true t w q = cc
-minutes-are false t w q = absurd (let z : _≡_ {A = ℕ} 0 1 = cc in omega arith)
-
 module _ (c : List ℕ) (j room : ℕ) where
   -- nothing is found: the image's own number, or 20
   pub at-product : {n e : ℕ} → image.foundOf c j ≡ Not n e → Refused n e ≡ judgedIn c j room
   unfolding judgedIn ticketRefusal
   at-product {n} {e} q =
-      let s = found-not c j q (ticketRules room (timeIn c j)) in
+      let s = found-not c j q (ticketRules room) in
       rw (s .number-is, s .entry-is) (go n (s .some))
     where
       go : (n : ℕ) → (n ≡ 0 → ⊥) → Refused n e ≡ judgedWith n e (soundIn c j)
@@ -77,11 +71,11 @@ module _ (c : List ℕ) (j room : ℕ) where
 
   module _ {l n : ℕ} (k : Finds c j l n) where
     numbered : ticketRefusal c j room
-        ≡ named (orElse (roomNumber (roomIn (length (product c j)) room)) (orElse (formNumber (formIn (valueAt Entry 2 (drop (entryAt c j) c)) (valueAt Header 2 (product c j)))) (orElse (extentNumber (extentIn (valueAt Header 0 (product c j)) (length (product c j)))) (timeNumber (minutesIn (timeIn c j)))))) j
+        ≡ named (orElse (roomNumber (roomIn (length (product c j)) room)) (orElse (formNumber (formIn (valueAt Entry 2 (drop (entryAt c j) c)) (valueAt Header 2 (product c j)))) (extentNumber (extentIn (valueAt Header 0 (product c j)) (length (product c j)))))) j
     unfolding ticketRefusal productAt
     numbered =
-        asked-there c j (ticketRules room (timeIn c j)) (k .accepted) (k .is-there)
-        ∙ ap (λ (n : ℕ). named n j) (in-order room (timeIn c j) (productAt c j))
+        asked-there c j (ticketRules room) (k .accepted) (k .is-there)
+        ∙ ap (λ (n : ℕ). named n j) (in-order room (productAt c j))
 
     pub at-room : roomIn (length (product c j)) room ≡ Short → Refused 21 j ≡ judgedIn c j room
     at-room q = refused-at (rw q at numbered)
@@ -95,16 +89,11 @@ module _ (c : List ℕ) (j room : ℕ) where
         at-extent q = refused-at (rw (fits, form, q) at numbered)
 
         module _ {x : ℕ} (ends : extentIn (valueAt Header 0 (product c j)) (length (product c j)) ≡ End x) where
-          pub at-time : minutesIn (timeIn c j) ≡ Late → Refused 24 j ≡ judgedIn c j room
-          at-time q = refused-at (rw (fits, form, ends, q) at numbered)
+          passed : Taken (soundIn c j) ≡ judgedIn c j room
+          unfolding judgedIn
+          passed = let e = rw (fits, form, ends) at numbered in rw e
 
-          module _ {w : ℕ} (kept : minutesIn (timeIn c j) ≡ Minutes w) where
-            passed : Taken (soundIn c j) ≡ judgedIn c j room
-            unfolding judgedIn
-            passed = let e = rw (fits, form, ends, kept) at numbered in rw e
-
-            pub at-end : {s : Stated} {m : ℕ} → s ≡ statedIn c j → m ≡ markSaid (S c) l (element c l) → Taken (record { sectors = n; mark = m; blocks = s .blocks; map = s .map; revision = s .revision; extent = x; day = s .day; minutes = w }) ≡ judgedIn c j room
-            at-end {s} q r =
-                let e = end-is (leb (leastOf kind) (extent c j) && leb (extent c j) (length (product c j))) (extent c j) x ends in
-                let f = minutes-are (leb (timeIn c j) (limit kind 9)) (timeIn c j) w kept in
-                rw (k .count-is, r ∙ k .mark-is, e, q, f) passed
+          pub at-end : {s : Stated} {m : ℕ} → s ≡ statedIn c j → m ≡ markSaid (S c) l (element c l) → Taken (record { sectors = n; mark = m; blocks = s .blocks; map = s .map; revision = s .revision; extent = x; day = s .day }) ≡ judgedIn c j room
+          at-end {s} q r =
+              let e = end-is (leb (leastOf kind) (extent c j) && leb (extent c j) (length (product c j))) (extent c j) x ends in
+              rw (k .count-is, r ∙ k .mark-is, e, q) passed

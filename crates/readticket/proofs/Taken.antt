@@ -1,14 +1,12 @@
--- What is known where the checks have taken a ticket read, for then none of 1 to 24 holds; and where they have refused it. Assumes nothing.
+-- What is known where the checks have taken a ticket read, for then none of 1 to 23 holds; and where they have refused it. Assumes nothing.
 use mathlib.Core.Path.{_≡_, refl, _∙_}
 use mathlib.Core.List.{List}
-use Prim.Native.Nat.{ℕ, zero, suc, _≤_, _<_}
+use Prim.Native.Nat.{ℕ, zero, suc, _≤_}
 use native.Mathlib.Omega.{arith}
 use lib.ListN.{length}
-use Rattle.ticket.proofs.Limits.{limit-time}
 use Rattle.image.specs.Image.{product}
 use Rattle.image.specs.Product.{productAt}
 use Rattle.image.specs.Check.{shapeOf}
-use Rattle.reads.specs.Values.{timeIn}
 use Rattle.reads.specs.Ticket.{ticketRefusal}
 use Rattle.reads.proofs.Known.{Known, Barred, known-at}
 use Rattle.reads.proofs.Passed.{passed, passed-entry}
@@ -24,7 +22,6 @@ module _ (c : List ℕ) (j room : ℕ) where
     pub sound-is : f ≡ soundIn c j
     pub known : Known c (shapeOf c) j
     pub room-enough : length (product c j) ≤ room
-    pub in-day : timeIn c j < 1440
 
   pub judged-taken : (f : Sound) → judgedIn c j room ≡ Taken f → Taking f
   unfolding judgedIn productAt
@@ -41,7 +38,6 @@ module _ (c : List ℕ) (j room : ℕ) where
             sound-is = cc;
             known = known-at c j (p .accepted) (p .is-there);
             room-enough = k .0;
-            in-day = omega (arith, k .1 .1 .1 .1 .1 .0, limit-time 9 refl);
           }
 
   pub judged-refused : {n e : ℕ} → judgedIn c j room ≡ Refused n e → Barred (ticketRefusal c j room) n e

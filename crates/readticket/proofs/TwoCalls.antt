@@ -4,13 +4,14 @@ use mathlib.Core.Path.{_≡_, refl, sym, ap, _∙_}
 use mathlib.Core.List.{List, [], _∷_}
 use Prim.Native.Nat.{ℕ, zero, suc, _+_, _-_, _^_, _≤_, _<_}
 use native.Mathlib.Omega.{arith}
-use lib.ListN.{length, take, drop, length-append, length-drop}
+use lib.ListN.{length, getD, take, drop, length-append, length-drop}
 use lib.Seq.{drop-append-le, take-append-le}
 use Rattle.bits.proofs.Laws.{field-below}
 use Rattle.fields.specs.Fields.{fields}
 use Rattle.fields.specs.Lists.{listOf}
 use Rattle.fields.specs.declared.Layout.the-variants.{Header}
-use Rattle.ticket.specs.Kind.{kind}
+use Rattle.fields.proofs.Laws.{getD-fields}
+use Rattle.ticket.specs.Kind.{kind, endMinutes}
 use Rattle.image.specs.Image.{mark, sectors, product}
 use Rattle.image.specs.Product.{productAt}
 use Rattle.image.specs.Shape.{Shaped, sectorPlace}
@@ -50,8 +51,12 @@ module _ (c : List ℕ) (j room : ℕ) where
     pub day-below : f .day < 2 ^ 14
     day-below = rw (k .sound-is) (field-below _ 26 14 14 (omega arith))
 
-    pub minutes-below : f .minutes < 1440
-    minutes-below = rw (k .sound-is) (k .in-day)
+    -- the end, of that day and the ninth value
+    pub ends-at : {v : List ℕ} → v ≡ fields (product c j) (listOf kind) → endMinutes (f .day) (getD v 8 0) ≡ ticketEnd c j
+    ends-at e = rw (k .sound-is, e, getD-fields (product c j) (listOf kind) 8 (omega arith))
+
+    pub time-below : {v : List ℕ} → v ≡ fields (product c j) (listOf kind) → getD v 8 0 < 2 ^ 11
+    time-below e = rw (e, getD-fields (product c j) (listOf kind) 8 (omega arith)) (field-below _ 77 11 11 (omega arith))
 
     -- the header that the checks have read
     header-is : (f .blocks ∷ f .map ∷ f .revision ∷ []) ≡ fields (product c j) (listOf Header)

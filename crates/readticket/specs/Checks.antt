@@ -1,4 +1,4 @@
--- An annex: the checks of a ticket read, 20 to 24: what each answers, and document 01's number of each answer; 22 and 23 are those of crate ticket.
+-- An annex: the checks of a ticket read, 20 to 23: what each answers, and document 01's number of each answer; 22 and 23 are those of crate ticket.
 -- Assumes nothing.
 use Prim.Native.Nat.{ℕ, zero, suc}
 use mathlib.Core.Bool.{cond}
@@ -7,16 +7,13 @@ use lib.ListN.{length, drop}
 use lib.Dec.{leb}
 use Rattle.fields.specs.Fields.{valueAt}
 use Rattle.fields.specs.declared.Layout.the-variants.{Entry, Header}
-use Rattle.ticket.specs.Kind.{kind, limit}
 use Rattle.image.specs.Image.{entryAt, sectors, mark, product}
 use Rattle.image.specs.declared.Found.{Found}
 use Rattle.image.specs.declared.Found.the-variants.{There, Not}
 use Rattle.reads.specs.Ticket.{ticketRefusal}
-use Rattle.reads.specs.Values.{extent, timeIn}
+use Rattle.reads.specs.Values.{extent}
 use Rattle.readticket.specs.declared.checks.Room.{Room}
 use Rattle.readticket.specs.declared.checks.Room.the-variants.{Fits, Short}
-use Rattle.readticket.specs.declared.checks.Time.{Time}
-use Rattle.readticket.specs.declared.checks.Time.the-variants.{Minutes, Late}
 use Rattle.readticket.specs.declared.checks.Stated.{Stated}
 use Rattle.readticket.specs.declared.checks.Sound.{Sound}
 use Rattle.readticket.specs.declared.checks.Judged.{Judged}
@@ -40,17 +37,9 @@ abbrev pub roomNumber : Room → ℕ
 roomNumber Fits = 0
 roomNumber Short = 21
 
--- 24: ExpiryTime read is 1,440 or more
-abbrev pub minutesIn : ℕ → Time
-minutesIn t = cond (leb t (limit kind 9)) (Minutes t) Late
-
-abbrev pub timeNumber : Time → ℕ
-timeNumber (Minutes t) = 0
-timeNumber Late = 24
-
 -- ---- all of them
 
--- what is looked at: TYP and EXP of the entry; the header's three values and ExpiryTime of the product
+-- what is looked at: TYP and EXP of the entry; the header's three values of the product
 abbrev pub statedIn : List ℕ → ℕ → Stated
 statedIn c j = record {
   typ = valueAt Entry 2 (drop (entryAt c j) c);
@@ -58,10 +47,9 @@ statedIn c j = record {
   blocks = valueAt Header 0 (product c j);
   map = valueAt Header 1 (product c j);
   revision = valueAt Header 2 (product c j);
-  time = timeIn c j;
 }
 
--- what is known of a ticket once none of 1 to 24 holds
+-- what is known of a ticket once none of 1 to 23 holds
 abbrev pub soundIn : List ℕ → ℕ → Sound
 soundIn c j = record {
   sectors = length (sectors c j);
@@ -71,7 +59,6 @@ soundIn c j = record {
   revision = valueAt Header 2 (product c j);
   extent = extent c j;
   day = valueAt Entry 6 (drop (entryAt c j) c);
-  minutes = timeIn c j;
 }
 
 abbrev pub judgedWith : ℕ → ℕ → Sound → Judged

@@ -1,4 +1,4 @@
-// The checks of a ticket read: 20, 21, 22, 23, 24 in this order, after the image's own.
+// The checks of a ticket read: 20, 21, 22, 23 in this order, after the image's own.
 use fields::Layout;
 use image::Found;
 use image::Shape;
@@ -6,13 +6,12 @@ use image::values;
 use rules::OTHER_KIND;
 use rules::WRONG_EXTENT;
 use rules::WRONG_ROOM;
-use rules::WRONG_TIME;
 use ticket::Extent;
 use ticket::Form;
 ghost use mathlib.Core.Path.{_≡_};
 ghost use Rattle.image.specs.Shape.{Shaped};
 ghost use Rattle.image.specs.Facts.{Present};
-ghost use Rattle.readticket.specs.Checks.{foundNumber, foundEntry, statedIn, roomIn, minutesIn, judgedIn};
+ghost use Rattle.readticket.specs.Checks.{foundNumber, foundEntry, statedIn, roomIn, judgedIn};
 
 // 1 to 11, or 20: the number of what was found, and the entry that it names.
 fn number_of(found: Found) -> usize
@@ -49,30 +48,13 @@ fn check_room(size: usize, room: usize) -> Room
     }
 }
 
-// 24: the time of day at which the ticket ends.
-pub enum Time {
-    Minutes(u64),
-    Late,
-}
-
-fn check_time(time: u64) -> Time
-    ensures { λ r. ⌜ r ≡ minutesIn time ⌝ }
-{
-    if time <= ticket::limit(9) {
-        Time::Minutes(time)
-    } else {
-        Time::Late
-    }
-}
-
-// What an entry states of its product, TYP and EXP; and what the product's first sector does, its header's three values and ExpiryTime.
+// What an entry states of its product, TYP and EXP; and what the product's first sector does, its header's three values.
 struct Stated {
     typ: u64,
     day: u64,
     blocks: u64,
     map: u64,
     revision: u64,
-    time: u64,
 }
 
 fn stated_of(image: &[u8], g: Shape, entry: usize) -> Stated
@@ -86,11 +68,10 @@ fn stated_of(image: &[u8], g: Shape, entry: usize) -> Stated
         blocks: values::of_product(image, g, entry, Layout::Header, 0),
         map: values::of_product(image, g, entry, Layout::Header, 1),
         revision: values::of_product(image, g, entry, Layout::Header, 2),
-        time: values::of_product(image, g, entry, Layout::Typ23, 8),
     }
 }
 
-// A ticket that has passed the checks: the length and mark of its chain, its header, the dataset's end, its last day and the time of day.
+// A ticket that has passed the checks: the length and mark of its chain, its header, the dataset's end, and the entry's EXP as its day.
 pub struct Sound {
     pub sectors: usize,
     pub mark: u8,
@@ -99,7 +80,6 @@ pub struct Sound {
     pub revision: u64,
     pub extent: usize,
     pub day: u64,
-    pub minutes: u64,
 }
 
 pub enum Judged {
@@ -107,7 +87,7 @@ pub enum Judged {
     Refused(usize, usize),
 }
 
-// The image's own numbers, and then 20 to 24 in their order.
+// The image's own numbers, and then 20 to 23 in their order.
 pub fn judge(image: &[u8], entry: usize, room: usize) -> Judged
     ensures { λ r. ⌜ r ≡ judgedIn (now (image .entry)) entry room ⌝ }
 {
@@ -128,9 +108,6 @@ pub fn judge(image: &[u8], entry: usize, room: usize) -> Judged
     let Extent::End(extent) = ticket::check_extent(said.blocks as usize, size) else {
         return Judged::Refused(WRONG_EXTENT, entry);
     };
-    let Time::Minutes(minutes) = check_time(said.time) else {
-        return Judged::Refused(WRONG_TIME, entry);
-    };
     Judged::Taken(Sound {
         sectors: count,
         mark: mark,
@@ -139,6 +116,5 @@ pub fn judge(image: &[u8], entry: usize, room: usize) -> Judged
         revision: said.revision,
         extent: extent,
         day: said.day,
-        minutes: minutes,
     })
 }

@@ -47,7 +47,8 @@ pub fn read_ticket(image: &[u8], entry: usize, buffer: &mut [u8]) -> TicketRead
                 entry: 0,
                 header: [sound.blocks, sound.map, sound.revision],
                 values: values,
-                end: ticket::end(sound.day, sound.minutes),
+                // values[8] is field 9, ExpiryTime
+                end: ticket::end(sound.day, values[8]),
                 mark: sound.mark as usize,
                 sectors: sound.sectors,
             }

@@ -32,8 +32,6 @@ pub const OTHER_KIND: usize = 22;
 
 pub const WRONG_EXTENT: usize = 23;
 
-pub const WRONG_TIME: usize = 24;
-
 pub const NO_FIELD: usize = 25;
 
 pub const TOO_LARGE: usize = 26;

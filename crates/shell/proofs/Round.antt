@@ -92,18 +92,18 @@ module _ (vs : List ℕ) (room : ℕ) (k : encodeNumber vs room ≡ 0) where
       let q = last-byte vs 1 in
       rw (front-dataset vs) (two-bytes (encodedShell vs) (datasetOf vs - 2) (omega arith) (omega arith) ∙ omega arith)
 
-  values-body : length vs ≡ 16 → fields (bodyOf vs) lists.shell ≡ vs
+  values-body : fields (bodyOf vs) lists.shell ≡ vs
   unfolding bodyOf encodeNumber
-  values-body n =
+  values-body =
       let t = taken vs room k in
       fields-stores 0 lists.shell 160 (lists-joined layout.Shell) (replicate (datasetOf vs - 2) 0) vs
       (omega (arith, length-replicate {A = ℕ} (datasetOf vs - 2) 0))
-      (record { many = n; low = kept-of-first (encodeRules vs room) (numbered vs room) k .0 })
+      (kept-of-first (encodeRules vs room) (numbered vs room) k .0)
 
-  values-dataset : length vs ≡ 16 → valuesIn (encodedShell vs) ≡ vs
-  values-dataset n =
+  values-dataset : valuesIn (encodedShell vs) ≡ vs
+  values-dataset =
       let t = taken vs room k in
-      fields-same 0 lists.shell 160 (lists-joined layout.Shell) (encodedShell vs) (bodyOf vs) (λ i x y. bit-dataset vs i (omega arith)) ∙ values-body n
+      fields-same 0 lists.shell 160 (lists-joined layout.Shell) (encodedShell vs) (bodyOf vs) (λ i x y. bit-dataset vs i (omega arith)) ∙ values-body
 
 module _ (vs l : List ℕ) (k : encodeNumber vs (length l) ≡ 0) where
   -- the buffer holds the dataset, and later bytes stay
@@ -111,8 +111,8 @@ module _ (vs l : List ℕ) (k : encodeNumber vs (length l) ≡ 0) where
   encoded = rw k
 
   -- decoding what was encoded gives the values back
-  pub decode-encode : length vs ≡ 16 → decodeOf (take 20 (encodeIn vs l)) ≡ record { values = vs }
-  decode-encode n =
+  pub decode-encode : decodeOf (take 20 (encodeIn vs l)) ≡ record { values = vs }
+  decode-encode =
       let t = taken vs (length l) k in
       let e = length-dataset vs (t .enough) in
       shell-of
@@ -120,7 +120,7 @@ module _ (vs l : List ℕ) (k : encodeNumber vs (length l) ≡ 0) where
       ∙ ap (λ (m : List ℕ). fields m lists.shell) encoded
       ∙ fields-same 0 lists.shell 160 (lists-joined layout.Shell) (encodedShell vs ++ drop (datasetOf vs) l) (encodedShell vs)
       (λ i x y. bit-append-left (encodedShell vs) (drop (datasetOf vs) l) i (omega arith))
-      ∙ values-dataset vs (length l) k n)
+      ∙ values-dataset vs (length l) k)
     where
       shell-of : {a : List ℕ} → a ≡ vs → _≡_ {A = Shell} (record { values = a }) (record { values = vs })
       shell-of e = rw e

@@ -26,7 +26,7 @@ pub record Narrow (vs : List ℕ) : Type 0 where
 
 pub narrow : (vs : List ℕ) → holds (fit lists.shell vs) ≡ true → Narrow vs
 narrow vs e =
-    let m = holds-means (fit lists.shell vs) e in
+    let m = holds-means (fit lists.shell vs) e .1 in
     record { length-fits = omega (arith, m 0 (omega arith)); iin-fits = omega (arith, m 3 (omega arith)); issn-fits = omega (arith, m 5 (omega arith)); chd-fits = omega (arith, m 6 (omega arith)) }
 
 -- ---- the first of the rules that fails, part by part
@@ -81,4 +81,4 @@ pub taken : (vs : List ℕ) (room : ℕ) → encodeNumber vs room ≡ 0 → Take
 unfolding encodeNumber
 taken vs room e =
     let k = kept-of-first (encodeRules vs room) (numbered vs room) e in
-    record { few = k .0 0 (omega arith); enough = k .1 .1 .0; fits = k .1 .1 .1 .1 .1 .1 .0 }
+    record { few = k .0 .1 0 (omega arith); enough = k .1 .1 .0; fits = k .1 .1 .1 .1 .1 .1 .0 }

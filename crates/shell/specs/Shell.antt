@@ -5,7 +5,7 @@ use lib.ListN.{getD, take, replicate}
 use Rattle.bits.specs.Bits.{field}
 use Rattle.crc.specs.Crc.{crc}
 use Rattle.fields.specs.declared.Layout.the-variants as layout
-use Rattle.fields.specs.Fields.{fields, stores, packRules}
+use Rattle.fields.specs.Fields.{fields, stores, fitRules}
 use Rattle.fields.specs.Lists as lists
 use Rattle.rules.specs.Claim.{Claim, _≡?_, _≤?_, every, Rule, rule}
 
@@ -68,7 +68,7 @@ beforeSECR d n = take (n - 2) d
 -- the checks in order: 26 (a value too wide), 5, 8, and 21 (a buffer of `room` bytes is shorter than the dataset)
 abbrev pub encodeRules : List ℕ → ℕ → List Rule
 encodeRules vs room =
-    packRules layout.Shell vs
+    fitRules layout.Shell vs
     ++ (formRules (ShellBitMap vs) (datasetOf vs)
     ++ (digitRules (IIN vs) (ISSN vs) (CHD vs)
     ++ (rule 21 (datasetOf vs ≤? room)

@@ -3,25 +3,24 @@
 use mathlib.Core.Path.{_≡_, refl, sym, ap, ap₂, _∙_}
 use mathlib.Core.Logic.{inr}
 use mathlib.Core.List.{List, [], _∷_, _++_}
-use Prim.Native.Nat.{ℕ, _+_, _-_, _*_, _≤_, _<_}
+use Prim.Native.Nat.{ℕ, _+_, _-_, _*_, _≤_}
 use native.Mathlib.Nat.{mul-le-mul-right}
 use native.Mathlib.Decide.{ℕ-discrete}
 use native.Mathlib.Omega.{arith}
-use lib.ListN.{length, getD, set, take, drop}
-use lib.Seq.{getD-set-same, getD-set-other}
+use lib.ListN.{length, set, take, drop}
+use Rattle.rules.specs.Claim.{Means}
 use Rattle.bits.specs.Bits.{Bytes}
 use Rattle.bits.proofs.Laws.{store-store, store-field, bytes-take, bytes-drop}
 use Rattle.fields.specs.declared.Span.{Span}
 use Rattle.fields.specs.Lists.{listOf, nth}
-use Rattle.fields.specs.Fields.{fields, stores, limitOf, limits, shifted}
-use Rattle.fields.specs.Together.{Fit}
+use Rattle.fields.specs.Fields.{fields, stores, shifted, fit}
 use Rattle.fields.proofs.Joined.{lists-joined}
-use Rattle.fields.proofs.Laws.{getD-limits, length-limits, fields-stores, fields-store, length-stores}
+use Rattle.fields.proofs.Laws.{fields-stores, fields-store, length-stores}
 use Rattle.fields.proofs.Only.{Inside}
 use Rattle.fields.proofs.Parts.{part, around, around-part, stores-part, part-stores, stores-left, stores-again}
 use Rattle.chains.specs.Chain.{Sector, Ends, fresh, used, blocked, In, Distinct}
 use Rattle.chains.proofs.Laws.{chain-sectors}
-use Rattle.ticket.specs.Kind.{kind, mostOf}
+use Rattle.ticket.specs.Kind.{kind, limit}
 use Rattle.image.specs.Image.{B, S, sectorAt, element, sectors, mark, sector, joined, product}
 use Rattle.image.specs.Obeys.{IsProduct}
 use Rattle.image.specs.Facts.{Facts}
@@ -35,28 +34,15 @@ use Rattle.steps.specs.Steps.{answerOf, answer, placesOf, valuesOf, next
 use Rattle.steps.proofs.Acts.{Taken, Act, idle, acts, act, next-is, refused-same, kept-taken, numbers, place-inside, ticket-inside, kept-mark, own-sector, in-bounds, kept-same, old-end, newMark}
 use Rattle.steps.proofs.Keeps.{stays, product-kept-there, sectors-kept, joined-kept, mark-own, mark-kept, seen-marked, bytes-next}
 
--- ---- limits
+-- ---- what is written fits
 
--- a ticket's limit is no wider than its field
-limit-low : (i : ℕ) → i < 22 → getD (mostOf kind) i 0 ≤ limitOf (nth (listOf kind) i)
-unfolding mostOf
-limit-low i h = elim (ℕ-discrete i 8) [
-  | yes e ↦ rw e (omega (arith, getD-set-same (limits (listOf kind)) 8 1439 0 (omega (arith, length-limits (listOf kind)))))
-  | no d ↦ omega (arith, getD-set-other (limits (listOf kind)) 8 i 1439 0 d, getD-limits (listOf kind) i h)
-]
-
-sub-one : (i : ℕ) → i + 1 - 1 ≡ i
-sub-one i = omega arith
-
-pub record-fits : (c : List ℕ) (j : ℕ) (vs : List ℕ) → Taken c (writeAll j vs) → Fit (listOf kind) vs
+pub record-fits : (c : List ℕ) (j : ℕ) (vs : List ℕ) → Taken c (writeAll j vs) → Means (fit (listOf kind) vs)
 unfolding stepRules
-record-fits c j vs t =
-    let r = t .kept .1 .1 .1 .1 .1 .0 in
-    record { many = r .0; low = λ i h. omega (arith, limit-low i h, rw sub-one at (r .1 i h)) }
+record-fits c j vs t = t .kept .1 .1 .1 .1 .1 .0
 
-value-fits : (c : List ℕ) (j n v : ℕ) → Taken c (write j n v) → v ≤ limitOf (nth (listOf kind) (n - 1))
+value-fits : (c : List ℕ) (j n v : ℕ) → Taken c (write j n v) → v ≤ limit kind n
 unfolding stepRules
-value-fits c j n v t = let r = t .kept .1 .1 .1 .1 .1 in omega (arith, limit-low (n - 1) (omega (arith, r .0)), r .1 .0)
+value-fits c j n v t = t .kept .1 .1 .1 .1 .1 .1 .0
 
 -- ---- a write stores into the product
 

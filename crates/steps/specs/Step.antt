@@ -4,9 +4,9 @@ use Prim.Native.Nat.{ℕ, _-_}
 use mathlib.Core.List.{List, [], _∷_, _++_}
 use Rattle.fields.specs.declared.Span.{Span}
 use Rattle.fields.specs.Lists.{span, listOf, nth}
-use Rattle.fields.specs.Fields.{shifted}
+use Rattle.fields.specs.Fields.{shifted, fitRules}
 use Rattle.rules.specs.Claim.{_≤?_, _and_, Rule, rule}
-use Rattle.ticket.specs.Kind.{kind, kindRules, setRules, recordRule}
+use Rattle.ticket.specs.Kind.{kind, kindRules, setRules}
 use Rattle.image.specs.Product.{Product}
 
 pub data Step : Type 0 where
@@ -32,7 +32,7 @@ writeRules p rs = rule 27 (p .marked ≤? 1) ∷ (kindOf p ++ rs)
 -- after the image's own numbers and 20; "a mark 20, 28, 27", where 27 meets mark 1 on a blocked chain alone: a mark may not fall below the one that is there
 unfoldable pub stepRules : Product → Step → List Rule
 stepRules p (write j n v) = writeRules p (setRules n v)
-stepRules p (writeAll j vs) = writeRules p (recordRule vs ∷ [])
+stepRules p (writeAll j vs) = writeRules p (fitRules kind vs)
 stepRules p (setMark j m) = rule 28 (1 ≤? m and m ≤? 2) ∷ rule 27 (p .marked ≤? m) ∷ []
 
 -- where a step stores: the field of the product, all its fields, or the one table element of its last sector

@@ -11,9 +11,9 @@ use Rattle.bits.proofs.Laws.{lt-or-le, bit-past, field-lt}
 use Rattle.bits.proofs.Zeros.{bytes-zeros, bit-zeros, field-of-zeros, zeros-of-field}
 use Rattle.chains.specs.Psi.{Ψ}
 use Rattle.fields.specs.Ends.{endToEnd}
-use Rattle.fields.specs.Together.{Fit}
+use Rattle.fields.specs.Fields.{fit}
 use Rattle.fields.proofs.Laws.{length-fields, length-stores, fields-stores, stores-onto, bit-stores-out}
-use Rattle.rules.specs.Claim.{Kept, Answers}
+use Rattle.rules.specs.Claim.{Means, Kept, Answers}
 use Rattle.rules.proofs.First.{kept-of-first, first-of-kept, taken-exactly, answers-exactly}
 use Rattle.table.specs.Table.{elementPlaces, encodeRules, decodeRules}
 use Rattle.table.specs.Coded.{encodeNumber, packedTable, encodeIn, decodeNumber, elementsIn, elementsOf, decodeOf}
@@ -68,16 +68,13 @@ decoded s b z = go (decodeNumber s (length b)) z
 -- ---- decoding what was encoded
 
 module _ (s : ℕ) (es l : List ℕ) (k : encodeNumber s es (length l) ≡ 0) where
-  fit : Fit (elementPlaces s) es
+  elements-fit : Means (fit (elementPlaces s) es)
   unfolding encodeNumber
-  fit =
+  elements-fit =
       let t = encode-taken-gives s es (length l) k in
       let m = kept-of-first (encodeRules s es (length l)) (encode-numbered s es (length l)) k in
       let n = length-places (Ψ s) 0 (s - 3) in
-      record {
-        many = t .count ∙ sym n;
-        low = λ i h. rw (nth-places (Ψ s) 0 (s - 3) i (omega arith)) (m .1 .1 .1 .1 .0 i (omega (arith, t .count)));
-      }
+      (t .count ∙ sym n, λ i h. rw (nth-places (Ψ s) 0 (s - 3) i (omega arith)) (m .1 .1 .1 .1 .0 i (omega (arith, t .count))))
 
   pub encoded : encodeIn s es l ≡ packedTable s es (length l)
   encoded = rw k
@@ -86,7 +83,7 @@ module _ (s : ℕ) (es l : List ℕ) (k : encodeNumber s es (length l) ≡ 0) wh
   elements-back =
       let t = encode-taken-gives s es (length l) k in
       fields-stores 0 (elementPlaces s) (Ψ s * (s - 3)) (from-zero s) (replicate (length l) 0) es
-      (omega (arith, length-replicate {A = ℕ} (length l) 0, table-room s, t .size)) fit
+      (omega (arith, length-replicate {A = ℕ} (length l) 0, table-room s, t .size)) elements-fit
 
   decoded-too : decodeNumber s (length l) ≡ 0
   unfolding decodeNumber

@@ -13,8 +13,8 @@ use Rattle.fields.proofs.Joined.{lists-joined}
 use Rattle.fields.proofs.Whole.{decode-encode, encode-decode, packed-exactly}
 use Rattle.ticket.specs.Ticket.{headerIn, headerBytes}
 
-pub header-back : (vs : List ℕ) → length vs ≡ 3 → Means (fit lists.head vs) → headerIn (headerBytes vs .bytes) .values ≡ vs
-header-back vs n m = decode-encode layout.Header 2 (lists-joined layout.Header) vs n m
+pub header-back : (vs : List ℕ) → Means (fit lists.head vs) → headerIn (headerBytes vs .bytes) .values ≡ vs
+header-back vs m = decode-encode layout.Header 2 (lists-joined layout.Header) vs m
 
 pub header-again : (b : List ℕ) → Bytes b → length b ≡ 2 → headerBytes (headerIn b .values) ≡ record { number = 0; entry = 0; bytes = b }
 header-again b h n = let e = encode-decode layout.Header 2 (lists-joined layout.Header) b h n in rw (e .1, e .0)

@@ -5,10 +5,10 @@ use lib.ListN.{getD, set, drop}
 use Rattle.fields.specs.declared.Layout.the-variants as layout
 use Rattle.fields.specs.Lists as lists
 use Rattle.fields.specs.Lists.{typ23}
-use Rattle.fields.specs.Fields.{fields, stores}
+use Rattle.fields.specs.Fields.{fields}
 use Rattle.fields.specs.Packed.{packNumber, packed}
 use Rattle.rules.specs.First.{first}
-use Rattle.ticket.specs.Kind.{fieldRule, setRules, recordRule}
+use Rattle.ticket.specs.Kind.{kind, fieldRule, setRules}
 use Rattle.ticket.specs.declared.Record.{Record}
 use Rattle.ticket.specs.declared.Changed.{Changed}
 use Rattle.ticket.specs.declared.Value.{Value}
@@ -46,24 +46,12 @@ valueIf (suc k) v = record { number = suc k; entry = 0; value = 0 }
 abbrev pub valueOf : Record → ℕ → Value
 valueOf t n = valueIf (valueNumber n) (getD (t .values) (n - 1) 0)
 
-abbrev pub zeros : ℕ → List ℕ
-zeros zero = []
-zeros (suc n) = 0 ∷ zeros n
-
--- bytes 2 to 28 of a ticket with these values
-abbrev pub bytesOf : List ℕ → List ℕ
-bytesOf vs = drop 2 (stores (zeros 29) typ23 vs)
-
 abbrev pub encoded : ℕ → List ℕ → Encoded
 encoded n b = record { number = n; entry = 0; bytes = b }
 
--- 26 where a value is above its limit: then zeros
-abbrev pub encodeBy : ℕ → List ℕ → Encoded
-encodeBy zero vs = encoded 0 (bytesOf vs)
-encodeBy (suc n) vs = encoded (suc n) (zeros 27)
-
+-- bytes 2 to 28 of a ticket with these values; 26 and zeros if one is too wide
 abbrev pub encodeOf : Record → Encoded
-encodeOf t = encodeBy (first (recordRule (t .values) ∷ [])) (t .values)
+encodeOf t = encoded (packNumber kind (t .values)) (drop 2 (packed kind 29 (t .values)))
 
 -- the values of a ticket
 abbrev pub recordIn : List ℕ → Record

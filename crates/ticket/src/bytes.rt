@@ -10,11 +10,10 @@ ghost use mathlib.Core.List.{_∷_};
 ghost use Prim.Native.Nat.{_+_, _*_, _≤_};
 ghost use lib.ListN.{length, drop};
 ghost use Rattle.bits.specs.Bits.{store};
-ghost use Rattle.fields.specs.Lists.{listOf, typ23};
-ghost use Rattle.fields.specs.Fields.{fields, stores};
-ghost use Rattle.fields.specs.Packed.{firstAbove};
-ghost use Rattle.fields.specs.Together.{Fit, wide, together};
-ghost use Rattle.ticket.specs.Kind.{kind, mostOf};
+ghost use Rattle.rules.specs.Claim.{Means};
+ghost use Rattle.fields.specs.Lists.{typ23};
+ghost use Rattle.fields.specs.Fields.{fields, stores, fit};
+ghost use Rattle.fields.specs.Together.{wide, together};
 ghost use Rattle.ticket.specs.Ticket.{headerIn, headerBytes, recordIn, encodeOf, decodeOf};
 
 // The values of the ticket that starts with the slice, each at a place that is known here. It has one caller, so that nothing of the list is looked up.
@@ -60,7 +59,7 @@ pub fn record_in(s: &[u8]) -> Record
 
 // The `count` values from the value `first` on, from 0, as one number.
 fn together(values: &[u64], first: usize, count: usize) -> u64
-    requires { ⌜ Fit typ23 (now values) ⌝ }
+    requires { ⌜ Means (fit typ23 (now values)) ⌝ }
     requires { ⌜ (first + count ≤ 22) × (wide typ23 first count ≤ 56) ⌝ }
     ensures { λ r. ⌜ r ≡ together typ23 (now (values .entry)) first count ⌝ }
 {
@@ -83,7 +82,7 @@ fn store_together(
     from: usize,
     bytes: usize,
 )
-    requires { ⌜ Fit typ23 (now values) ⌝ }
+    requires { ⌜ Means (fit typ23 (now values)) ⌝ }
     requires { ⌜ (first + count ≤ 22) × (wide typ23 first count ≡ 8 * bytes) × (bytes ≤ 7) × (from + bytes ≤ length (now s)) ⌝ }
     ensures { λ _. ⌜ now (s .exit) ≡ store (now (s .entry)) (8 * from) (wide typ23 first count) (together typ23 (now (values .entry)) first count) ⌝ }
 {
@@ -92,8 +91,8 @@ fn store_together(
 }
 
 // Stores values that fit, in the ticket that starts with the slice: its fields in five parts, each of whole bytes.
-fn store_all(s: &mut [u8], values: &[u64])
-    requires { ⌜ Fit typ23 (now values) ⌝ }
+pub fn store_record(s: &mut [u8], values: &[u64])
+    requires { ⌜ Means (fit typ23 (now values)) ⌝ }
     requires { ⌜ 232 ≤ 8 * length (now s) ⌝ }
     ensures { λ _. ⌜ now (s .exit) ≡ stores (now (s .entry)) typ23 (now (values .entry)) ⌝ }
 {
@@ -102,14 +101,6 @@ fn store_all(s: &mut [u8], values: &[u64])
     store_together(s, values, 14, 3, 15, 5);
     store_together(s, values, 17, 3, 20, 6);
     store_together(s, values, 20, 2, 26, 3)
-}
-
-// Stores values that are at most their limits, in the ticket that starts with the slice.
-pub fn store_record(s: &mut [u8], values: &[u64])
-    requires { ⌜ (232 ≤ 8 * length (now s)) × (length (now values) ≡ 22) × (firstAbove (mostOf kind) (now values) ≡ 0) ⌝ }
-    ensures { λ _. ⌜ now (s .exit) ≡ stores (now (s .entry)) (listOf kind) (now (values .entry)) ⌝ }
-{
-    store_all(s, values)
 }
 
 // The bytes after the ticket's header.

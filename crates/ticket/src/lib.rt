@@ -1,14 +1,12 @@
 // A ticket of TYP 23 revision 2: what its kind is, its record of twenty-two values, and both as bytes.
 use fields::Layout;
-use fields::Span;
 ghost use mathlib.Core.Path.{_≡_};
-ghost use mathlib.Core.List.{[], _∷_};
-ghost use Prim.Native.Nat.{_-_, _*_, _^_, _≤_, _<_};
+ghost use Prim.Native.Nat.{_*_, _^_, _≤_, _<_};
 ghost use lib.ListN.{length};
 ghost use Rattle.rules.specs.First.{holds, first};
-ghost use Rattle.fields.specs.Lists.{listOf, nth};
-ghost use Rattle.fields.specs.Packed.{firstAbove};
-ghost use Rattle.ticket.specs.Kind.{kind, typ, revision, countOf, leastOf, restOf, mostOf, limit, fieldRule, setRules, recordRule, endMinutes};
+ghost use Rattle.fields.specs.Lists.{listOf};
+ghost use Rattle.fields.specs.Fields.{fit, fitRules};
+ghost use Rattle.ticket.specs.Kind.{kind, typ, revision, countOf, leastOf, restOf, limit, fieldRule, setRules, endMinutes};
 ghost use Rattle.ticket.specs.Checks.{formIn, extentIn};
 ghost use Rattle.ticket.specs.Ticket.{setOf, valueOf};
 
@@ -135,23 +133,12 @@ pub fn check_extent(blocks: usize, size: usize) -> Extent
     }
 }
 
-// The largest value of the field n: what its width holds; ExpiryTime ends within the day.
-pub fn limit(n: usize) -> u64
+// The largest value of the field n.
+fn limit(n: usize) -> u64
     requires { ⌜ (1 ≤ n) × (n ≤ 22) ⌝ }
     ensures { λ r. ⌜ r ≡ limit kind n ⌝ }
 {
-    largest(fields::place(Layout::Typ23, n - 1), n)
-}
-
-// The same, where its place is known to be p.
-fn largest(p: Span, n: usize) -> u64
-    requires { ⌜ (1 ≤ n) × (n ≤ 22) × (p ≡ nth (listOf kind) (n - 1)) ⌝ }
-    ensures { λ r. ⌜ r ≡ limit kind n ⌝ }
-{
-    if n == 9 {
-        return 1439;
-    }
-    fields::largest(p)
+    fields::limit(Layout::Typ23, n - 1)
 }
 
 // 25: whether the number is that of a field.
@@ -174,33 +161,32 @@ pub fn field_number(field: usize, value: u64) -> usize
     0
 }
 
-// The lowest field whose value is above its limit, from 1; 0 where there is none.
-fn lowest_bad(values: &[u64]) -> usize
+// Whether a record's values fit. Each is looked at, whatever was found before, so that fields of one width share a test.
+fn record_fits(values: &[u64]) -> bool
     requires { ⌜ length (now values) ≡ 22 ⌝ }
-    ensures { λ r. ⌜ r ≡ firstAbove (mostOf kind) (now (values .entry)) ⌝ }
+    ensures { λ r. ⌜ r ≡ holds (fit (listOf kind) (now (values .entry))) ⌝ }
 {
     let places = fields::typ23();
     let n = count();
+    let mut ok = true;
     let mut i: usize = 0;
     while i < n {
         let p = places[i];
-        if largest(p, i + 1) < values[i] {
-            return i + 1;
-        }
+        ok = ok & (values[i] <= fields::largest(p));
         i += 1;
     }
-    0
+    ok
 }
 
 // 26, of a record's values, lent so that they are not copied; 0 where it is not given.
 pub fn record_number(values: &[u64]) -> usize
     requires { ⌜ length (now values) ≡ 22 ⌝ }
-    ensures { λ r. ⌜ r ≡ first (recordRule (now (values .entry)) ∷ []) ⌝ }
+    ensures { λ r. ⌜ r ≡ first (fitRules kind (now (values .entry))) ⌝ }
 {
-    if 0 < lowest_bad(values) {
-        return rules::TOO_LARGE;
+    if record_fits(values) {
+        return 0;
     }
-    0
+    rules::TOO_LARGE
 }
 
 impl Record {

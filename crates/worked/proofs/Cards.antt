@@ -1,11 +1,12 @@
--- The verdict on a card by computation, with all that it stands on opened; and document 01's examples that are not marked P. Assumes nothing.
+-- The verdict on a card, a read and a step by computation, with all that they stand on opened; and document 01's examples that are not marked P.
+-- Assumes nothing.
 use mathlib.Core.Path.{_≡_, refl}
 use mathlib.Core.List.{List}
 use Prim.Native.Nat.{ℕ}
 use lib.Count.{leadingZeros}
 use lib.ListN.{length}
-use Rattle.bits.specs.Bits.{digit, bit, number, field}
-use Rattle.fields.specs.Fields.{fields, limits}
+use Rattle.bits.specs.Bits.{digit, bit, number, field, bytes, stored, store}
+use Rattle.fields.specs.Fields.{fields, stores, shifted}
 use Rattle.chains.specs.Walk.{link, member, walkOn}
 use Rattle.chains.specs.Products as products
 use Rattle.chains.specs.Products.{meet, some}
@@ -20,14 +21,25 @@ use Rattle.image.specs.Verdict.{isProduct, brokenAt, sharesAt, verdict}
 use Rattle.image.specs.Product.{elementAt, productAt}
 use Rattle.image.specs.Seen.{seen, asked}
 use Rattle.image.specs.Rules.{rules}
-use Rattle.ticket.specs.Kind.{mostOf}
 use Rattle.reads.specs.Ticket.{ticketRefusal, readTicket}
-use Rattle.worked.specs.Cards.{shellStart, shellSector, directory, card, card17, smallCard}
+use Rattle.reads.specs.declared.TicketRead.{TicketRead}
+use Rattle.steps.specs.Step.{Step, stepRules}
+use Rattle.steps.specs.Steps.{answer, next}
+use Rattle.worked.specs.Cards.{shellStart, shellSector, directory, card, card17, smallCard, oneTicket}
 
 -- the verdict, with all that it stands on opened
 unfoldable pub judge : List ℕ → Answer
 unfolding verdict rules first all stated version copy shellValues fields dataset B S e# SCTL shellPad SECR beforeSECR sectorAt directoryAt entryAt tableAt isProduct Ψ tableBytes element tablePad chain sectors brokenAt products.brokenAt member meet some sharesAt products.sharesAt lowest field number bit digit leadingZeros walkOn link crc register clocks clock
 judge c = verdict c
+
+-- and so a read, and a step
+unfoldable pub look : List ℕ → ℕ → ℕ → TicketRead
+unfolding judge readTicket ticketRefusal asked seen productAt elementAt product joined sector sectors mark
+look c j room = readTicket c j room
+
+unfoldable pub act : List ℕ → Step → List ℕ
+unfolding look answer next stepRules stores store stored bytes shifted
+act c s = next c s
 
 -- ---- besides those marked P
 
@@ -52,9 +64,9 @@ above-17 = refl
 
 -- IPELength 7 is 23, 8 passes
 length-7 : (readTicket (smallCard 0x1C 0x02) 1 32 .number ≡ 23) × (readTicket (smallCard 0x1C 0x02) 1 32 .entry ≡ 1)
-unfolding judge readTicket ticketRefusal asked seen productAt elementAt product joined sector sectors mark mostOf limits smallCard shellStart
+unfolding look smallCard oneTicket shellStart
 length-7 = (refl, refl)
 
 length-8 : (readTicket (smallCard 0x20 0x02) 1 32 .number ≡ 0) × (readTicket (smallCard 0x20 0x02) 1 32 .entry ≡ 0)
-unfolding judge readTicket ticketRefusal asked seen productAt elementAt product joined sector sectors mark mostOf limits smallCard shellStart
+unfolding look smallCard oneTicket shellStart
 length-8 = (refl, refl)

@@ -4,3 +4,4 @@ pub mod Sizes
 pub mod Readings
 pub mod Worked
 pub mod Told
+pub mod Night

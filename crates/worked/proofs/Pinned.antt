@@ -1,14 +1,13 @@
 -- Both sides of every line compute to the same bytes and the same values. Assumes nothing.
 use mathlib.Core.Path.{refl}
 use Rattle.bits.specs.Bits.{digit, bit, number, field, bytes, stored, store}
-use Rattle.fields.specs.Fields.{fields, stores, limits}
+use Rattle.fields.specs.Fields.{fields, stores}
 use Rattle.fields.specs.Packed.{packNumber}
 use Rattle.rules.specs.First.{all, first}
-use Rattle.ticket.specs.Kind.{mostOf}
 use Rattle.worked.specs.Pinned.{ImageFields, ShellFields, HeadFields, EntryFields, TailFields, HeaderFields, TicketFields, Pinned}
 
 image : ImageFields
-unfolding packNumber first all mostOf limits fields stores store stored bytes field number bit digit
+unfolding packNumber first all fields stores store stored bytes field number bit digit
 image = record {
   length = (refl, refl);
   version = (refl, refl);
@@ -16,7 +15,7 @@ image = record {
 }
 
 shell : ShellFields
-unfolding packNumber first all mostOf limits fields stores store stored bytes field number bit digit
+unfolding packNumber first all fields stores store stored bytes field number bit digit
 shell = record {
   ShellLength = (refl, refl);
   ShellBitMap = (refl, refl);
@@ -37,7 +36,7 @@ shell = record {
 }
 
 head : HeadFields
-unfolding packNumber first all mostOf limits fields stores store stored bytes field number bit digit
+unfolding packNumber first all fields stores store stored bytes field number bit digit
 head = record {
   DIRLength = (refl, refl);
   DIRBitMap = (refl, refl);
@@ -45,7 +44,7 @@ head = record {
 }
 
 entry : EntryFields
-unfolding packNumber first all mostOf limits fields stores store stored bytes field number bit digit
+unfolding packNumber first all fields stores store stored bytes field number bit digit
 entry = record {
   EF = (refl, refl);
   OID = (refl, refl);
@@ -57,7 +56,7 @@ entry = record {
 }
 
 tail : TailFields
-unfolding packNumber first all mostOf limits fields stores store stored bytes field number bit digit
+unfolding packNumber first all fields stores store stored bytes field number bit digit
 tail = record {
   DIRS# = (refl, refl);
   KID = (refl, refl);
@@ -66,7 +65,7 @@ tail = record {
 }
 
 header : HeaderFields
-unfolding packNumber first all mostOf limits fields stores store stored bytes field number bit digit
+unfolding packNumber first all fields stores store stored bytes field number bit digit
 header = record {
   IPELength = (refl, refl);
   IPEBitMap = (refl, refl);
@@ -74,7 +73,7 @@ header = record {
 }
 
 ticket : TicketFields
-unfolding packNumber first all mostOf limits fields stores store stored bytes field number bit digit
+unfolding packNumber first all fields stores store stored bytes field number bit digit
 ticket = record {
   RemoveDate = (refl, refl);
   ProductRetailer = (refl, refl);
@@ -101,7 +100,7 @@ ticket = record {
 }
 
 pub pinned : Pinned
-unfolding packNumber first all limits fields stores store stored bytes field number bit digit
+unfolding packNumber first all fields stores store stored bytes field number bit digit
 pinned = record {
   image = image;
   shell = shell;

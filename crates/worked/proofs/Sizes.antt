@@ -6,11 +6,11 @@ use Rattle.bits.specs.Bits.{Bytes}
 use Rattle.bits.proofs.Laws.{below, below-bytes}
 use Rattle.image.specs.Obeys.{Obeys}
 use Rattle.image.proofs.Exact.{accepted-exactly}
-use Rattle.worked.specs.Cards.{shellStart, smallCard, largest}
+use Rattle.worked.specs.Cards.{shellStart, oneTicket, smallCard, largest}
 use Rattle.worked.proofs.Cards.{judge}
 
 smallest-accepted : (length (smallCard 0 0) ≡ 132) × (judge (smallCard 0 0) .number ≡ 0)
-unfolding judge smallCard shellStart
+unfolding judge smallCard oneTicket shellStart
 smallest-accepted = (refl, refl)
 
 largest-accepted : (length largest ≡ 60439) × (judge largest .number ≡ 0)
@@ -18,7 +18,7 @@ unfolding judge largest shellStart
 largest-accepted = (refl, refl)
 
 smallest-bytes : Bytes (smallCard 0 0)
-unfolding below smallCard shellStart
+unfolding below smallCard oneTicket shellStart
 smallest-bytes = below-bytes (smallCard 0 0) tt
 
 largest-bytes : Bytes largest

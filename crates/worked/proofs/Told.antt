@@ -5,31 +5,17 @@ use mathlib.Core.List.{List}
 use Prim.Native.Nat.{ℕ}
 use native.Mathlib.Omega.{arith}
 use lib.ListN.{length, getD, replicate}
-use Rattle.bits.specs.Bits.{Bytes, bytes, stored, store}
+use Rattle.bits.specs.Bits.{Bytes}
 use Rattle.bits.proofs.Laws.{below, below-bytes}
-use Rattle.fields.specs.Fields.{limits, stores, shifted}
-use Rattle.ticket.specs.Kind.{mostOf}
-use Rattle.image.specs.Image.{sectors, mark, sector, joined, product}
+use Rattle.image.specs.Image.{mark, product}
 use Rattle.rules.specs.Answer.{says}
 use Rattle.image.specs.Verdict.{verdict}
-use Rattle.image.specs.Product.{elementAt, productAt}
-use Rattle.image.specs.Seen.{seen, asked}
-use Rattle.reads.specs.Ticket.{ticketRefusal, readTicket, rest}
-use Rattle.reads.specs.declared.TicketRead.{TicketRead}
-use Rattle.steps.specs.Step.{Step, write, writeAll, setMark, stepRules}
+use Rattle.reads.specs.Ticket.{readTicket, rest}
+use Rattle.steps.specs.Step.{write, writeAll, setMark}
 use Rattle.steps.specs.Steps.{answer, next}
 use Rattle.worked.specs.Cards.{shellStart, shellSector, directory, copies, ticketCard}
 use Rattle.worked.specs.Told.{used, written, blocked, ticket, Told}
-use Rattle.worked.proofs.Cards.{judge}
-
--- what is to be computed: a read, and a step
-look : List ℕ → ℕ → ℕ → TicketRead
-unfolding judge readTicket ticketRefusal asked seen productAt elementAt product joined sector sectors mark mostOf limits
-look c j room = readTicket c j room
-
-act : List ℕ → Step → List ℕ
-unfolding look answer next stepRules stores store stored bytes shifted
-act c s = next c s
+use Rattle.worked.proofs.Cards.{look, act}
 
 -- the two steps, each from the card as the one before left it
 written-is : written ≡ ticketCard 0x45 0x9F 0x80

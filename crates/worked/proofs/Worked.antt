@@ -2,11 +2,10 @@
 -- Assumes nothing.
 use mathlib.Core.Path.{refl}
 use Rattle.bits.specs.Bits.{digit, bit, number, bytes, stored, store}
-use Rattle.fields.specs.Fields.{stores, limits}
-use Rattle.fields.specs.Packed.{above, packNumber}
+use Rattle.fields.specs.Fields.{stores}
+use Rattle.fields.specs.Packed.{packNumber}
 use Rattle.rules.specs.First.{all, first}
 use Rattle.dates.proofs.Examples as dates
-use Rattle.ticket.specs.Kind.{mostOf}
 use Rattle.image.specs.Image.{sectors, mark, product, joined, sector}
 use Rattle.image.specs.Product.{elementAt, productAt}
 use Rattle.image.specs.Seen.{seen}
@@ -17,7 +16,7 @@ use Rattle.worked.specs.Worked.{Worked}
 use Rattle.worked.proofs.Cards.{judge}
 
 pub worked : Worked
-unfolding judge packNumber first all mostOf limits above stores store stored bytes number bit digit sectors mark product joined sector elementAt productAt seen stepRules answer next card shellSector shellStart directory
+unfolding judge packNumber first all stores store stored bytes number bit digit sectors mark product joined sector elementAt productAt seen stepRules answer next card shellSector shellStart directory
 worked = record {
   entry = refl;
   header = refl;

@@ -1,5 +1,5 @@
--- An annex: cards byte by byte: those of document 01, "Examples by hand", the smallest and largest of "The image", one with two directory copies that differ, and
--- one with a ticket of two sectors. Assumes nothing.
+-- An annex: cards byte by byte: those of document 01, "Examples by hand", the smallest and largest of "The image", one with two directory copies that differ,
+-- one with a ticket of two sectors, and one with a ticket that ends in the night. Assumes nothing.
 use mathlib.Core.List.{List, [], _∷_, _++_}
 use Prim.Native.Nat.{ℕ}
 use lib.ListN.{replicate}
@@ -33,12 +33,20 @@ card17 a b =
     ∷ shellStart ++ (0x40 ∷ 0x11 ∷ 0x02 ∷ 0x09 ∷ 0x00 ∷ 0x00 ∷ 0x2D ∷ 0x99
     ∷ (replicate 936 0 ++ (directory a b ++ replicate 64 0)))
 
--- S 4, B 32, one entry, of TYP 23, whose chain is its sector 1, used (the element is 3); that sector begins with the bytes a and b
-unfoldable pub smallCard : ℕ → ℕ → List ℕ
-smallCard a b =
+-- S 4, B 32, one entry, of TYP 23 and the EXP e, whose chain is its sector 1, used (the element is 3); the 32 bytes of that sector
+unfoldable pub oneTicket : ℕ → List ℕ → List ℕ
+oneTicket e sector =
     0x00 ∷ 0x84 ∷ 1 ∷ 0
     ∷ shellStart ++ (0x20 ∷ 0x04 ∷ 0x01 ∷ 0x01 ∷ 0x00 ∷ 0x00 ∷ 0xDB ∷ 0x33
-    ∷ (replicate 8 0 ++ (a ∷ b ∷ (replicate 30 0 ++ (0 ∷ 1 ∷ 0x00 ∷ 0x06 ∷ 0xE1 ∷ 0x00 ∷ 0x01 ∷ 0xC0 ∷ replicate 56 0)))))
+    ∷ (replicate 8 0 ++ (sector ++ (0 ∷ 1 ∷ 0x00 ∷ 0x06 ∷ 0xE1 ∷ 0x00 ∷ e ∷ 0xC0 ∷ replicate 56 0))))
+
+-- of EXP 1, the sector's first bytes a and b
+unfoldable pub smallCard : ℕ → ℕ → List ℕ
+smallCard a b = oneTicket 1 (a ∷ b ∷ replicate 30 0)
+
+-- of EXP e, a ticket with a and b as its bytes 9 and 10, where ExpiryTime stands, and p as byte 19, the last of AmountPaid
+unfoldable pub nightCard : ℕ → ℕ → ℕ → ℕ → List ℕ
+nightCard e a b p = oneTicket e (0x20 ∷ 0x02 ∷ (replicate 7 0 ++ (a ∷ b ∷ (replicate 8 0 ++ (p ∷ replicate 12 0)))))
 
 -- S 237, B 255, one entry, whose chain is its sector 1, fresh: the element is 1
 unfoldable pub largest : List ℕ

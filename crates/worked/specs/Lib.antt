@@ -2,3 +2,4 @@ pub mod Cards
 pub mod Pinned
 pub mod Worked
 pub mod Told
+pub mod Night

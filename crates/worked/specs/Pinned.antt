@@ -9,7 +9,7 @@ use Rattle.fields.specs.declared.Span.{Span}
 use Rattle.fields.specs.Lists as lists
 use Rattle.fields.specs.Fields.{fields, stores}
 use Rattle.directory.specs.Records.{entryBytes, entryIn, headBytes, headIn, tailBytes, tailIn}
-use Rattle.ticket.specs.Ticket.{headerBytes, headerIn, bytesOf, encodeOf, encoded, decodeOf}
+use Rattle.ticket.specs.Ticket.{headerBytes, headerIn, encodeOf, encoded, decodeOf}
 
 -- n numbers: xs from number k on, counted from 0, and the others 0
 abbrev pub among : ℕ → ℕ → List ℕ → List ℕ
@@ -52,10 +52,6 @@ ticketBytes k b = among 27 (k - 2) b
 
 abbrev pub InTicket : ℕ → ℕ → ℕ → List ℕ → Type 0
 InTicket i w k b = (encodeOf (record { values = lone 22 i w }) ≡ encoded 0 (ticketBytes k b)) × (decodeOf (ticketBytes k b) .values ≡ lone 22 i w)
-
--- of ExpiryTime the encoder refuses all ones (house): the bytes that it stores where it does not refuse
-abbrev pub InTicketTime : ℕ → ℕ → ℕ → List ℕ → Type 0
-InTicketTime i w k b = (bytesOf (lone 22 i w) ≡ ticketBytes k b) × (decodeOf (ticketBytes k b) .values ≡ lone 22 i w)
 
 -- document 01, "The image"
 pub record ImageFields : Type 0 where
@@ -121,7 +117,7 @@ pub record TicketFields : Type 0 where
   pub RFU-6 : InTicket 6 2 7 (0xC0 ∷ [])
   pub IssueDate : InTicket 7 14 7 (0x3F ∷ 0xFF ∷ [])
   pub ValidityCode : InTicket 8 5 9 (0xF8 ∷ [])
-  pub ExpiryTime : InTicketTime 9 11 9 (0x07 ∷ 0xFF ∷ [])
+  pub ExpiryTime : InTicket 9 11 9 (0x07 ∷ 0xFF ∷ [])
   pub RFU-10 : InTicket 10 5 11 (0xF8 ∷ [])
   pub Class : InTicket 11 3 11 (0x07 ∷ [])
   pub PartySizeAdult : InTicket 12 8 12 (0xFF ∷ [])

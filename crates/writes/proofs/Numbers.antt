@@ -1,7 +1,7 @@
 -- The numbers of a write are those of its rules, and the first that is given is the answer. Assumes nothing.
 use mathlib.Core.Path.{_≡_, refl, ap, _∙_}
 use mathlib.Core.Logic.{_≢_}
-use mathlib.Core.List.{List, [], _∷_}
+use mathlib.Core.List.{List, []}
 use Prim.Native.Nat.{ℕ, zero, suc, _≤_, _<_}
 use native.Mathlib.Omega.{arith}
 use borrow.Author.Tests.{le-leb, lt-leb}
@@ -9,7 +9,8 @@ use Rattle.rules.specs.Answer.{says}
 use Rattle.rules.specs.Claim.{Rule}
 use Rattle.rules.specs.First.{first}
 use Rattle.rules.proofs.ClaimLaws.{Numbered, orElse, first-append}
-use Rattle.ticket.specs.Kind.{setRules, recordRule}
+use Rattle.fields.specs.Fields.{fitRules}
+use Rattle.ticket.specs.Kind.{kind, setRules}
 use Rattle.image.specs.Facts.{Present}
 use Rattle.image.specs.Product.{Product, productAt}
 use Rattle.steps.specs.Step.{Step, write, writeAll, owner, kindOf, writeRules, stepRules}
@@ -51,6 +52,6 @@ pub write-rules : (p : Product) (j n v : ℕ) → stepRules p (write j n v) ≡ 
 unfolding stepRules
 write-rules p j n v = refl
 
-pub record-rules : (p : Product) (j : ℕ) (vs : List ℕ) → stepRules p (writeAll j vs) ≡ writeRules p (recordRule vs ∷ [])
+pub record-rules : (p : Product) (j : ℕ) (vs : List ℕ) → stepRules p (writeAll j vs) ≡ writeRules p (fitRules kind vs)
 unfolding stepRules
 record-rules p j vs = refl

@@ -14,10 +14,10 @@ ghost use mathlib.Core.List.{[], _∷_};
 ghost use Prim.Native.Nat.{_-_, _*_, _≤_};
 ghost use lib.ListN.{length};
 ghost use Rattle.fields.specs.Lists.{listOf, nth};
-ghost use Rattle.fields.specs.Fields.{stores, shifted};
-ghost use Rattle.fields.specs.Packed.{firstAbove};
+ghost use Rattle.fields.specs.Fields.{stores, shifted, fit};
+ghost use Rattle.rules.specs.Claim.{Means};
 ghost use Rattle.rules.specs.First.{first};
-ghost use Rattle.ticket.specs.Kind.{kind, countOf, mostOf};
+ghost use Rattle.ticket.specs.Kind.{kind, countOf};
 ghost use Rattle.image.specs.Image.{sectorAt, sectors, mark};
 ghost use Rattle.image.specs.Shape.{Shaped};
 ghost use Rattle.image.specs.Product.{productAt};
@@ -73,7 +73,7 @@ fn store_field(image: &mut [u8], g: Shape, entry: usize, field: usize, value: u6
 fn store_record(image: &mut [u8], g: Shape, entry: usize, values: &[u64])
     requires { ⌜ Shaped (now image) g ⌝ }
     requires { ⌜ (1 ≤ entry) × (entry ≤ g .entries) ⌝ }
-    requires { ⌜ (length (now values) ≡ 22) × (firstAbove (mostOf kind) (now values) ≡ 0) ⌝ }
+    requires { ⌜ Means (fit (listOf kind) (now values)) ⌝ }
     ensures { λ _. ⌜ now (image .exit) ≡ stores (now (image .entry)) (shifted (8 * sectorAt (now (image .entry)) entry) (listOf kind)) (now (values .entry)) ⌝ }
 {
     let from = image::sector_at(g, entry);

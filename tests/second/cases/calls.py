@@ -1,9 +1,9 @@
-"""Calls on a good card, at the very boundary of numbers 20 to 28, with their answers."""
+"""Calls on a good card, at the very boundary of numbers 20 to 28 (24 is withdrawn), with their answers."""
 
 from model.fields import TICKET
-from model.table import psi
+from model.table import BLOCKED, FRESH, USED, psi
 
-from .cards import element_set, entry_set, product_bits_set, random_record
+from .cards import NIGHT, element_set, entry_set, night_plan, product_bits_set, random_record, record_with
 
 BIG = 2 ** 64 - 1
 REVISION = (12, 4)
@@ -70,7 +70,7 @@ def buffer_calls(script, dice, plan, j, show=True):
 
 
 def form_images(dice, plan, good, j):
-    """Images at the boundary of 22, 23 and 24 for one ticket, with the number of a read."""
+    """Images at the boundary of 22 and 23 for one ticket, with the number of a read."""
     length = plan.product_length(j)
     for typ in (0, 7, 22, 23, 24, 31):
         image = entry_set(plan, good, j, plan.entry[j][:2] + [typ] + plan.entry[j][3:])
@@ -81,32 +81,37 @@ def form_images(dice, plan, good, j):
         if blocks <= 63:
             fits = 32 <= 4 * blocks <= length
             yield product_bits_set(plan, good, j, *IPE_LENGTH, blocks), 0 if fits else 23
-    for time in (0, 1439, 1440, 1441, 2047):
-        yield product_bits_set(plan, good, j, *EXPIRY_TIME, time), 0 if time < 1440 else 24
 
 
-def several_forms(dice, plan, good, j):
-    """An image with several of 22, 23 and 24 at once, with the number of a read and of a write."""
-    numbers = dice.some([22, 23, 24], dice.between(1, 3))
-    image = good
-    if 24 in numbers:
-        image = product_bits_set(plan, image, j, *EXPIRY_TIME, dice.between(1440, 2047))
+def late_time(dice):
+    """An ExpiryTime on the day after the expiry date."""
+    return dice.pick([1440, 2047, dice.between(1440, 2047)])
+
+
+def several_forms(dice, plan, good, j, time):
+    """An image with this ExpiryTime and with 22, 23, both or neither, with the number of a read or write."""
+    numbers = dice.some([22, 23], dice.pick([0, 1, 2, 2]))
+    image = product_bits_set(plan, good, j, *EXPIRY_TIME, time)
     if 23 in numbers:
         image = product_bits_set(plan, image, j, *IPE_LENGTH, dice.below(8))
     if 22 in numbers:
         image = product_bits_set(plan, image, j, *REVISION, dice.pick([0, 1, 3, 15]))
-    write = min([number for number in numbers if number != 24] or [0])
-    return image, min(numbers), write
+    return image, min(numbers or [0])
 
 
 def ticket_calls(script, dice, plan, good, j, show=False):
-    """22, 23 and 24 for a read, each alone and several at once."""
+    """22 and 23 for a read, each alone and both at once; ExpiryTimes around midnight, which are all read."""
     size = plan.product_length(j)
     for image, number in form_images(dice, plan, good, j):
         script.load(image)
         read_both(script, j, size, number, show and number)
+    for time in (0, 1439, 1440, 1441, 2047):
+        script.load(product_bits_set(plan, good, j, *EXPIRY_TIME, time))
+        record = record_with(plan.ticket[j][1], 9, time)
+        script.say("ticket", j, size, expect=plan.ticket_answer(j, record))
+        script.say("rest", j, size, expect=plan.rest_answer(j))
     for _ in range(3):
-        image, number, _ = several_forms(dice, plan, good, j)
+        image, number = several_forms(dice, plan, good, j, late_time(dice))
         script.load(image)
         read_both(script, j, size, number, show)
         read_both(script, j, size - 1, 21, show)
@@ -151,10 +156,9 @@ def field_steps(script, dice, plan, j, fields=range(1, 23), show=lambda: None):
     show()
     for field in fields:
         _, first, width = TICKET[field - 1]
-        most = 1439 if field == 9 else 2 ** width - 1
+        most = 2 ** width - 1
         place = (8 * plan.place(j) + first, width)
-        wrong = sorted({most + 1, 2 ** width, 2 ** width - 1 if field == 9 else 2 ** width + 1, 2 ** 63, BIG})
-        for value in wrong:
+        for value in (most + 1, most + 2, 2 ** 63, BIG):
             step_refused(script, dice, "field %d %d %d" % (j, field, value), (26, j))
         for value in dice.shuffled([0, most, dice.between(0, most)])[:2]:
             step_taken(script, "field %d %d %d" % (j, field, value), place)
@@ -167,18 +171,64 @@ def record_steps(script, dice, plan, j, show=lambda: None):
     for field in range(1, 23):
         _, _, width = TICKET[field - 1]
         record = random_record(dice)
-        record[field - 1] = dice.pick([2 ** width, BIG, 1440 if field == 9 else 2 ** width])
+        record[field - 1] = dice.pick([2 ** width, 2 ** width, BIG])
         if dice.chance(30):
             record[dice.below(22)] = BIG
         step_refused(script, dice, "record %d %s" % (j, words(record)), (26, j))
     show()
-    most = [1439 if n == 9 else 2 ** width - 1 for n, (_, _, width) in enumerate(TICKET, 1)]
+    most = [2 ** width - 1 for _, _, width in TICKET]
     for record in ([0] * 22, most, random_record(dice)):
         step_taken(script, "record %d %s" % (j, words(record)), place)
         answer = script.say("ticket", j)
         if answer is not None and answer.split(" ")[5:27] != [str(value) for value in record]:
             script.wrong.append(("record", answer, record))
         show()
+
+
+def expiry_steps(script, dice, plan, j, show=lambda: None):
+    """Both writes on the plan's own card, ExpiryTime on either side of midnight, at its widest and one more."""
+    _, record = plan.ticket[j]
+    place, times = 8 * plan.place(j), (1439, 1440, 2047)
+    for time in times:
+        step_taken(script, "field %d 9 %d" % (j, time), (place + EXPIRY_TIME[0], EXPIRY_TIME[1]))
+        script.say("ticket", j, expect=plan.ticket_answer(j, record_with(record, 9, time)))
+        show()
+    step_refused(script, dice, "field %d 9 2048" % j, (26, j))
+    for time in times:
+        record = record_with(random_record(dice), 9, time)
+        step_taken(script, "record %d %s" % (j, words(record)), (place + 16, 216))
+        script.say("ticket", j, expect=plan.ticket_answer(j, record))
+        show()
+    step_refused(script, dice, "record %d %s" % (j, words(record_with(record, 9, 2048))), (26, j))
+    show()
+
+
+def late_steps(script, dice, plan, j, time, mark):
+    """A late ticket is read, written in another field, in field 9 and as a whole, and read again."""
+    record = record_with(plan.ticket[j][1], 9, time)
+    script.say("ticket", j, expect=plan.ticket_answer(j, record, mark))
+    for field, value in ((1, 255), (9, dice.pick([1439, 1440, 2047]))):
+        record = record_with(record, field, value)
+        step_taken(script, "field %d %d %d" % (j, field, value))
+        script.say("ticket", j, expect=plan.ticket_answer(j, record, mark))
+    record = random_record(dice)
+    step_taken(script, "record %d %s" % (j, words(record)))
+    script.say("ticket", j, expect=plan.ticket_answer(j, record, mark))
+
+
+def night_calls(script):
+    """The tickets around midnight with their ends: read, written and read again, by field and by record."""
+    script.load(night_plan().image())
+    for j, (_, time, end) in enumerate(NIGHT, 1):
+        zeros, record = [0] * 22, record_with([0] * 22, 9, time)
+        at_zero = words([0, 0, 8, 0, 2] + zeros + [end - time, 0, 1])
+        at_time = words([0, 0, 8, 0, 2] + record + [end, 0, 1])
+        script.say("ticket", j, expect=at_time)
+        for text, expect in (("field %d 9 0" % j, at_zero), ("field %d 9 %d" % (j, time), at_time),
+                             ("record %d %s" % (j, words(zeros)), at_zero),
+                             ("record %d %s" % (j, words(record)), at_time)):
+            step_taken(script, text)
+            script.say("ticket", j, expect=expect)
 
 
 def mark_steps(script, dice, plan, j, show=lambda: None):
@@ -203,13 +253,14 @@ def mark_steps(script, dice, plan, j, show=lambda: None):
 
 
 def order_steps(script, dice, plan, good, j, show=lambda: None):
-    """Several of 27, 22, 23, 25 and 26 at once."""
+    """Several of 27, 22, 23, 25 and 26 at once, on a late ticket."""
     last, S = plan.chain[j][0][-1], plan.S
     for _ in range(6):
-        image, _, write = several_forms(dice, plan, good, j)
-        blocked = dice.chance(40)
-        image = element_set(plan, image, last, S - 2 if blocked else dice.pick([last, S - 1]))
-        number = 27 if blocked else write
+        time = late_time(dice)
+        image, form = several_forms(dice, plan, good, j, time)
+        mark = BLOCKED if dice.chance(40) else dice.pick([FRESH, USED])
+        image = element_set(plan, image, last, {FRESH: last, USED: S - 1, BLOCKED: S - 2}[mark])
+        number = 27 if mark == BLOCKED else form
         script.load(image)
         for field, value, wrong in ((0, 0, 25), (23, BIG, 25), (dice.between(1, 22), BIG, 26)):
             step_refused(script, dice, "field %d %d %d" % (j, field, value), (number or wrong, j))
@@ -217,23 +268,16 @@ def order_steps(script, dice, plan, good, j, show=lambda: None):
         record[dice.below(22)] = BIG
         step_refused(script, dice, "record %d %s" % (j, words(record)), (number or 26, j))
         step_refused(script, dice, "mark %d %d" % (j, dice.pick([0, 3])), (28, j))
-        if blocked:
+        if mark == BLOCKED:
             step_refused(script, dice, "mark %d 1" % j, (27, j))
             step_taken(script, "mark %d 2" % j)
             step_refused(script, dice, "field %d 1 0" % j, (27, j))
             step_refused(script, dice, "record %d %s" % (j, words(random_record(dice))), (27, j))
-        elif write:
-            step_refused(script, dice, "field %d 9 0" % j, (write, j))
-            step_refused(script, dice, "record %d %s" % (j, words(random_record(dice))), (write, j))
+        elif form:
+            step_refused(script, dice, "field %d 9 0" % j, (form, j))
+            step_refused(script, dice, "record %d %s" % (j, words(random_record(dice))), (form, j))
         else:
-            script.number("ticket", j, expect=(24, j))
-            if dice.chance(50):
-                step_taken(script, "field %d 1 255" % j)
-                script.number("ticket", j, expect=(24, j))
-                step_taken(script, "field %d 9 1439" % j)
-            else:
-                step_taken(script, "record %d %s" % (j, words(random_record(dice))))
-            script.number("ticket", j, expect=(0, 0))
+            late_steps(script, dice, plan, j, time, mark)
         show()
 
 
@@ -247,7 +291,7 @@ def random_step(dice, plan, j=None):
         width = TICKET[field - 1][2] if 1 <= field <= 22 else 8
         value = dice.pick([0, 2 ** width - 1, dice.below(2 ** width), dice.below(2 ** width), 2 ** width])
         if field == 9:
-            value = dice.pick([0, 1439, 1440, 2047, dice.below(1440)])
+            value = dice.pick([0, 1439, 1440, 2047, 2048, dice.below(2048)])
         return "field %d %d %d" % (j, field, value)
     if kind < 8:
         record = random_record(dice)

@@ -7,6 +7,9 @@ from model.table import BLOCKED, FRESH, USED, encode_table, psi, table_length
 
 LARGEST_S, LARGEST_B = 237, 255
 
+# EXP, ExpiryTime and the end of tickets around midnight, the latest of all in front.
+NIGHT = ((0, 2047, 23595007), (0, 1440, 23594400), (0, 1439, 23594399), (1, 1440, 2880))
+
 
 class Plan:
     """A card as it is meant, before it is bytes."""
@@ -109,10 +112,12 @@ class Plan:
             lines.append(" ".join(map(str, [j, self.entry[j][2], names[mark]] + sectors)))
         return lines
 
-    def ticket_answer(self, j):
-        """The answer to `ticket` with a buffer that holds the product."""
-        header, record = self.ticket[j]
-        sectors, mark = self.chain[j]
+    def ticket_answer(self, j, record=None, mark=None):
+        """The answer to `ticket` with a buffer that holds the product, after these changes."""
+        header, own_record = self.ticket[j]
+        sectors, own_mark = self.chain[j]
+        record = own_record if record is None else record
+        mark = own_mark if mark is None else mark
         day = self.entry[j][6] or 16384
         end = [day * 1440 + record[8], mark, len(sectors)]
         return " ".join(map(str, [0, 0] + header + record + end))
@@ -139,12 +144,19 @@ def most_entries(S, B):
 
 
 def random_record(dice):
-    """Twenty-two values that fit their fields, often at an end of the range."""
+    """Twenty-two values that fit their fields, often at an end of the range or around midnight."""
     record = []
-    for number, (_, _, width) in enumerate(TICKET, 1):
-        most = 1439 if number == 9 else 2 ** width - 1
+    for _, _, width in TICKET:
+        most = 2 ** width - 1
         record.append(dice.pick([0, most, dice.between(0, most), dice.between(0, most)]))
+    if dice.chance(25):
+        record[8] = dice.pick([1439, 1440])
     return record
+
+
+def record_with(record, number, value):
+    """The record with another value in one field."""
+    return record[:number - 1] + [value] + record[number:]
 
 
 def random_entry(dice, typ=None):
@@ -232,6 +244,17 @@ def crowded_plan(dice):
     return plan
 
 
+def night_plan():
+    """A ticket of one sector for each end around midnight."""
+    plan = Plan(16, 64, len(NIGHT))
+    for j, (exp, time, _) in enumerate(NIGHT, 1):
+        plan.entry[j] = [0, 1, 23, 1, 0, 0, exp]
+        plan.chain[j] = ([j], FRESH)
+        plan.bytes[j] = bytes(plan.B)
+        put_ticket(plan, j, [8, 0, 2], record_with([0] * 22, 9, time))
+    return plan
+
+
 def digits(dice, count):
     """A number of decimal digits, four bits each."""
     number = 0
@@ -264,10 +287,13 @@ def random_ticket(dice, plan, j):
     length = plan.product_length(j)
     most = min(63, length // 4)
     header = [dice.pick([8, most, dice.between(8, most)]), dice.below(64), 2]
-    record = random_record(dice)
+    put_ticket(plan, j, header, random_record(dice))
+
+
+def put_ticket(plan, j, header, record):
+    """Let entry j's product hold this header and this record."""
     plan.ticket[j] = (header, record)
-    first = plan.bytes[j]
-    plan.bytes[j] = encode(HEADER, header) + encode_ticket(record) + first[29:]
+    plan.bytes[j] = encode(HEADER, header) + encode_ticket(record) + plan.bytes[j][29:]
 
 
 def element_set(plan, image, sector, element):

@@ -145,6 +145,13 @@ def near(dice, most):
     return dice.pick([0, 1, most, most, most + 1, most - 1, dice.between(0, most), dice.between(0, most), BIG])
 
 
+def near_width(dice, field):
+    """A value at or near the widest of a ticket field, for ExpiryTime often on either side of midnight."""
+    if field == 9 and dice.chance(40):
+        return dice.pick([1439, 1440])
+    return near(dice, 2 ** TICKET[field - 1][2] - 1)
+
+
 def random_value_call(script, dice):
     """A call apart from any image."""
     kind = dice.below(12)
@@ -165,14 +172,14 @@ def random_value_call(script, dice):
     elif kind in (4, 5):
         record = random_record(dice)
         if dice.chance(40):
-            i = dice.below(22)
-            record[i] = near(dice, 1439 if i == 8 else 2 ** TICKET[i][2] - 1)
+            field = dice.between(1, 22)
+            record[field - 1] = near_width(dice, field)
         script.say("encode-ticket", words(record))
         script.say("decode-ticket", dice.data(27).hex())
     elif kind in (6, 7):
         field = near(dice, 22)
-        width = TICKET[field - 1][2] if 1 <= field <= 22 else 8
-        script.say("set", field, near(dice, 1439 if field == 9 else 2 ** width - 1), words(random_record(dice)))
+        value = near_width(dice, field) if 1 <= field <= 22 else near(dice, 255)
+        script.say("set", field, value, words(random_record(dice)))
         script.say("value", near(dice, 22), words([dice.word() for _ in range(22)]))
     elif kind in (8, 9):
         values = random_shell(dice)

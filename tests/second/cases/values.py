@@ -4,7 +4,7 @@ from model.fields import ENTRY, HEAD, HEADER, SHELL, TAIL, TICKET
 from model.table import psi, table_length
 
 from .calls import BIG, words
-from .cards import digits, random_record
+from .cards import digits, random_record, record_with
 
 PUBLISHED = (("000000", 0xC6CC), ("0faaff", 0xD1FC), ("0a123456", 0xF62C), (b"123456789".hex(), 0x906E))
 
@@ -87,17 +87,18 @@ def random_values(dice, widths):
 def ticket_record_calls(script, dice, count):
     """Encode and decode a ticket, set a field and read a field."""
     refused = "26 0 " + "00" * 27
-    most = [1439 if n == 9 else 2 ** width - 1 for n, (_, _, width) in enumerate(TICKET, 1)]
-    for record in [[0] * 22, most] + [random_record(dice) for _ in range(count)]:
+    most = [2 ** width - 1 for _, _, width in TICKET]
+    around = [record_with(random_record(dice), 9, time) for time in (1439, 1440, 2047)]
+    for record in [[0] * 22, most] + around + [random_record(dice) for _ in range(count)]:
         answer = script.say("encode-ticket", words(record))
         if answer is not None:
             script.say("decode-ticket", answer[4:], expect=words([0, 0] + record))
-    script.say("decode-ticket", "ff" * 27)
-    for _ in range(count):
-        script.say("decode-ticket", dice.data(27).hex())
+    for text in ["ff" * 27] + [dice.data(27).hex() for _ in range(count)]:
+        answer = script.say("decode-ticket", text)
+        if answer is not None:
+            script.say("encode-ticket", answer[4:], expect="0 0 " + text)
     for field, (_, _, width) in enumerate(TICKET, 1):
-        wrong = [2 ** width, BIG] + ([1440, 2047] if field == 9 else [])
-        for value in wrong:
+        for value in (2 ** width, BIG):
             record = random_record(dice)
             script.say("set", field, value, words(record), expect=words([26, 0] + record))
             record[field - 1] = value
@@ -105,9 +106,9 @@ def ticket_record_calls(script, dice, count):
             if dice.chance(30):
                 record[dice.below(22)] = BIG
                 script.say("encode-ticket", words(record), expect=refused)
-        for value in (0, most[field - 1]):
+        for value in [0, most[field - 1]] + ([1439, 1440] if field == 9 else []):
             record = random_record(dice)
-            changed = record[:field - 1] + [value] + record[field:]
+            changed = record_with(record, field, value)
             script.say("set", field, value, words(record), expect=words([0, 0] + changed))
             script.say("value", field, words(record), expect=words([0, 0, record[field - 1]]))
     for field in (0, 23, 24, 256 + 1, 2 ** 32 + 1, BIG):

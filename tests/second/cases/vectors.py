@@ -1,7 +1,7 @@
 """The choice of commands that is kept with its answers, group by group."""
 
 from . import between, calls, faults, mix, values
-from .cards import Plan, crowded_plan, full_plan, random_plan
+from .cards import Plan, crowded_plan, full_plan, night_plan, random_plan
 from .dice import Dice
 
 SECTORS = (4, 5, 6, 7, 8, 9, 15, 16, 17, 24, 31, 32, 33, 63, 64, 65, 127, 128, 129, 237, 255)
@@ -131,7 +131,7 @@ def reads_group(script, dice):
     script.say("buffer 0", expect="-")
     plans = with_tickets(dice, 2, True, False, (4, 32, 1)) + with_tickets(dice, 8, True, False)
     plans += with_tickets(dice, 14, False, True)
-    plans += with_tickets(dice, 1, False, True, (237, 255, 1)) + [crowded_plan(dice)]
+    plans += with_tickets(dice, 1, False, True, (237, 255, 1)) + [crowded_plan(dice), night_plan()]
     for plan in plans:
         good = plan.image()
         script.load(good)
@@ -175,12 +175,15 @@ def steps_group(script, dice):
     def whole():
         script.say("bytes")
 
+    calls.night_calls(script)
+    whole()
     small = with_tickets(dice, 2, True, False, (4, 32, 1)) + with_tickets(dice, 3, True, False, (5, 32, 1))
     small += with_tickets(dice, 5, True, False)
     for plan in small:
         good = plan.image()
         for j in dice.some(calls.tickets(plan, writable=True), 1):
             script.load(good)
+            calls.expiry_steps(script, dice, plan, j, whole)
             calls.field_steps(script, dice, plan, j, dice.some(range(1, 23), 8), whole)
             calls.record_steps(script, dice, plan, j, whole)
         for j in dice.some(sorted(plan.chain), 2):
@@ -205,6 +208,7 @@ def steps_group(script, dice):
         script.load(good)
         script.say("keep")
         for j in dice.some(calls.tickets(plan, writable=True), 1):
+            calls.expiry_steps(script, dice, plan, j)
             calls.field_steps(script, dice, plan, j, dice.some(range(1, 23), 6))
             script.say("touched")
             calls.record_steps(script, dice, plan, j)

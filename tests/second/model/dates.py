@@ -34,5 +34,5 @@ def stamp_of(year, month, day):
 
 
 def end_of_ticket(exp, expiry_time):
-    """The entry's day in minutes, and the minutes of ExpiryTime."""
+    """The entry's day in minutes, and the minutes of ExpiryTime, also those of the day after."""
     return day_of(exp) * 1440 + expiry_time

@@ -51,8 +51,6 @@ TICKET = (
 
 TICKET_FIRST_BIT = 16
 TICKET_END_BIT = 232
-EXPIRY_TIME = 9
-MINUTES_OF_A_DAY = 1440
 
 
 def decode(layout, data):
@@ -86,11 +84,9 @@ def value_of(layout, values, name):
 
 
 def ticket_value_fits(number, value):
-    """Whether a value may stand in ticket field `number` (1 to 22)."""
+    """Whether a value fits the width of ticket field `number` (1 to 22)."""
     _, _, width = TICKET[number - 1]
-    if not fits(value, width):
-        return False
-    return number != EXPIRY_TIME or value < MINUTES_OF_A_DAY
+    return fits(value, width)
 
 
 def record_fits(record):
@@ -104,7 +100,7 @@ def decode_ticket(data):
 
 
 def encode_ticket(record):
-    """The twenty-seven bytes of bits 16 to 231; 26 if a value does not fit its field."""
+    """The twenty-seven bytes of bits 16 to 231; 26 if a value is too wide."""
     if not record_fits(record):
         raise Refused(26)
     data = bytearray((TICKET_END_BIT - TICKET_FIRST_BIT) // 8)

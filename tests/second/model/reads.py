@@ -2,8 +2,8 @@
 
 from .check import HEAD_BYTES, TAIL_BYTES, open_card
 from .dates import end_of_ticket
-from .fields import (ENTRY, EXPIRY_TIME, HEAD, HEADER, MINUTES_OF_A_DAY, TAIL, TICKET_END_BIT,
-                     TICKET_FIRST_BIT, decode, decode_ticket, value_of)
+from .fields import (ENTRY, HEAD, HEADER, TAIL, TICKET, TICKET_END_BIT, TICKET_FIRST_BIT, decode,
+                     decode_ticket, value_of)
 from .refusal import Refused
 
 REST_FIRST_BYTE = TICKET_END_BIT // 8
@@ -61,33 +61,31 @@ def read_chain(image, j):
 
 
 def checked_ticket(image, j, lent):
-    """The card and the product's values, after 20, 21, 22, 23 and 24."""
+    """The card and the product, after 20, 21, 22 and 23."""
     card = open_card(image)
     require_entry(card, j)
     product = card.product(j)
     if lent < len(product):
         raise Refused(21, j)
     require_ticket(card, j)
-    record = decode_ticket(product[TICKET_FIRST_BIT // 8:TICKET_END_BIT // 8])
-    if record[EXPIRY_TIME - 1] >= MINUTES_OF_A_DAY:
-        raise Refused(24, j)
-    return card, product, record
+    return card, product
 
 
 def read_ticket(image, j, buffer):
     """Copy the product; give header, record, end of the ticket, mark and number of sectors."""
-    card, product, record = checked_ticket(image, j, len(buffer))
+    card, product = checked_ticket(image, j, len(buffer))
     buffer[:len(product)] = product
+    record = decode_ticket(product[TICKET_FIRST_BIT // 8:TICKET_END_BIT // 8])
     exp = value_of(ENTRY, decode(ENTRY, card.entry(j)), "EXP")
     sectors, mark = card.chains[j]
-    end = end_of_ticket(exp, record[EXPIRY_TIME - 1])
+    end = end_of_ticket(exp, value_of(TICKET, record, "ExpiryTime"))
     return decode(HEADER, product[:2]) + record + [end, mark, len(sectors)]
 
 
 def read_rest(image, j, buffer):
     """Copy the product likewise; give the part from byte 29 to the dataset's end."""
     try:
-        _, product, _ = checked_ticket(image, j, len(buffer))
+        _, product = checked_ticket(image, j, len(buffer))
     except Refused:
         return b""
     buffer[:len(product)] = product

@@ -1,15 +1,17 @@
 -- `readticket::read_ticket` meets its contract: `take` has filled the buffer, and what is read is read of the first sector. Assumes nothing.
-use mathlib.Core.Path.{sym, ap, _∙_}
+use mathlib.Core.Path.{_≡_, sym, ap, _∙_}
 use native.Mathlib.Omega.{arith}
 use Prim.Native.Nat.{_+_, _≤_}
 use lib.ListN.{length}
+use Rattle.fields.specs.Fields.{fields}
+use Rattle.fields.specs.Lists.{listOf}
 use Rattle.ticket.specs.declared.Record.{Record}
-use Rattle.ticket.specs.Kind.{endMinutes}
+use Rattle.ticket.specs.Kind.{kind}
+use Rattle.image.specs.Image.{product}
 use Rattle.image.specs.Shape.{sectorPlace}
 use Rattle.image.proofs.Places.{from-length}
-use Rattle.readticket.specs.declared.checks.Sound.{Sound}
 use Rattle.readticket.proofs.Taken.{Taking, judged-taken, judged-refused}
-use Rattle.readticket.proofs.TwoCalls.{start-within, start-fields, day-below, minutes-below, read-taken, read-refused}
+use Rattle.readticket.proofs.TwoCalls.{start-within, start-fields, day-below, time-below, ends-at, read-taken, read-refused}
 use borrow.Author.Needs.{needs}
 use Rattle.readticket.proofs.read_ticket.Statement.{statement}
 use Rattle.readticket.proofs.read_ticket.Tie as tie
@@ -47,11 +49,21 @@ part-first-end c = search needs
 record-in-requires : tie.Need-record-in-requires
 record-in-requires c κs = simp from-length (omega (arith, c .before .sector-at .ensures, within (c .before .before)))
 
+-- the values are the product's
+valued : (c : tie.After-record-in) → (let o = c .before .before .before .before .before .before .before .before .before .before .before .before .before in c .record-in .result .values ≡ fields (product (o .args .image .now) (o .args .entry)) (listOf kind))
+valued c =
+    let s = c .before .before in
+    let g = s .before in
+    rw (s .sector-at .ensures) at (ap (λ (r : Record). r .values) (c .record-in .ensures)) ∙ start-fields _ _ _ (taking (g .before .before)) (g .shape-of .ensures)
+
+array-read-end : tie.Need-array-read-end
+array-read-end c = search needs
+
 end-requires : tie.Need-end-requires
 end-requires c κs =
-    let k = taking (c .before .before .before .before .before .before) in
-    let d = day-below _ _ _ k in
-    let m = minutes-below _ _ _ k in
+    let o = c .before .before .before .before .before .before in
+    let d = day-below _ _ _ (taking o) in
+    let m = time-below _ _ _ (taking o) (valued (c .before)) in
     (omega (arith, d, m), omega (arith, d, m))
 
 cast-t17 : tie.Need-cast-t17
@@ -65,12 +77,10 @@ same-length c = search needs
 
 returns : tie.Need-returns
 returns c =
-    let s = c .before .before .before .before .before in
-    let g = s .before in
-    let o = g .before .before in
+    let v = c .before .before .before in
+    let o = v .before .before .before .before .before in
     let k = taking o in
-    let v = ap (λ (r : Record). r .values) (c .before .before .before .record-in .ensures) in
-    (read-taken _ _ _ k (rw (s .sector-at .ensures) at v ∙ start-fields _ _ _ k (g .shape-of .ensures)) (c .before .end .ensures ∙ ap (λ (f : Sound). endMinutes (f .day) (f .minutes)) (k .sound-is)), o .before .before .before .before .take .ensures .1)
+    (read-taken _ _ _ k (valued v) (c .before .end .ensures ∙ ends-at _ _ _ k (valued v)), o .before .before .before .before .take .ensures .1)
 
 same-length-2 : tie.Need-same-length-2
 same-length-2 c = search needs
@@ -92,6 +102,7 @@ read-ticket-spec =
     part-first-start
     part-first-end
     record-in-requires
+    array-read-end
     end-requires
     cast-t17
     enum-known-n

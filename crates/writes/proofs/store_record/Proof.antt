@@ -23,7 +23,7 @@ part-store-record-end c = let p = c .before .before .before .before .pre in part
 store-record-requires : tie.Need-store-record-requires
 store-record-requires c κs =
     let p = c .before .before .before .before .before .pre in
-    (omega (arith, part-room (p .0) (p .1 .0) (c .before .before .sector-at .ensures)), p .1 .1 .0, p .1 .1 .1)
+    (p .1 .1, omega (arith, part-room (p .0) (p .1 .0) (c .before .before .sector-at .ensures)))
 
 same-length : tie.Need-same-length
 same-length c = search needs

@@ -1,7 +1,8 @@
 -- `writes::write_record` meets its contract: each number is the first rule that fails, and where none does the fields are stored. Assumes nothing.
-use mathlib.Core.Path.{sym, _∙_}
+use mathlib.Core.Path.{_∙_}
 use native.Mathlib.Omega.{arith}
-use Rattle.ticket.proofs.Limits.{lowest-kept}
+use Rattle.fields.proofs.Whole.{number-fits}
+use Rattle.ticket.specs.Kind.{kind}
 use Rattle.image.proofs.Founds.{Finds, finds}
 use Rattle.steps.proofs.Calls.{Sees, sees-of, turned-of, turned-answer, taken-answer, entry-in}
 use Rattle.writes.proofs.Numbers.{early-answer, late-answer, write-taken, record-rules}
@@ -56,9 +57,11 @@ returns-2 c =
 
 store-record-requires : tie.Need-store-record-requires
 store-record-requires c κs =
-    let s = seen (c .before .before .before .before .before .before .before .before) in
+    let m = c .before .before .before .before .before .before .before .before in
+    let s = seen m in
     let e = entry-in (s .shape) (s .present) in
-    (s .shape, ((omega (arith, e), omega (arith, e)), (search needs, lowest-kept _ (sym (c .before .before .before .record-number .ensures) ∙ c .before .before .if2 .left))))
+    let o = m .before .before .before .before .before .before .before .before .before .before in
+    (s .shape, ((omega (arith, e), omega (arith, e)), number-fits kind (o .args .values .now) (c .before .before .before .record-number .ensures) (c .before .before .if2 .left)))
 
 enum-known-n : tie.Need-enum-known-n
 enum-known-n c = search needs

@@ -12,10 +12,10 @@ use Rattle.ticket.specs.declared.Extent.the-variants.{End}
 use Rattle.image.specs.Image.{product}
 use Rattle.image.proofs.Founds.{Finds, finds}
 use Rattle.image.proofs.Places.{size-of, size-in}
-use Rattle.readticket.specs.Checks.{statedIn, roomIn, minutesIn}
+use Rattle.readticket.specs.Checks.{statedIn, roomIn}
 use Rattle.readticket.specs.declared.checks.Stated.{Stated}
 use Rattle.readticket.specs.declared.checks.Room.the-variants.{Fits}
-use Rattle.readticket.proofs.InOrder.{at-product, at-room, at-form, at-extent, at-time, at-end}
+use Rattle.readticket.proofs.InOrder.{at-product, at-room, at-form, at-extent, at-end}
 use borrow.Author.Needs.{needs}
 use Rattle.readticket.proofs.checks.judge.Statement.{statement}
 use Rattle.readticket.proofs.checks.judge.Tie as tie
@@ -69,9 +69,6 @@ ended c = c .check-extent .ensures ∙ ap₂ extentIn (ap (λ (s : Stated). s .b
 
 ends : (c : tie.After-extent) → extentIn (statedIn (image (from-room (from-form (from-extent c)))) (entry (from-room (from-form (from-extent c)))) .blocks) (length (product (image (from-room (from-form (from-extent c)))) (entry (from-room (from-form (from-extent c)))))) ≡ End (c .extent .given .0 .0)
 ends c = sym (ended (c .before .before)) ∙ c .extent .given .1
-
-timed : (c : tie.After-check-time) → c .check-time .result ≡ minutesIn (statedIn (image (from-room (from-form (from-extent (c .before .before))))) (entry (from-room (from-form (from-extent (c .before .before))))) .time)
-timed c = c .check-time .ensures ∙ ap (λ (s : Stated). minutesIn (s .time)) (from-extent (c .before .before) .before .before .before .stated-of .ensures)
 
 find-requires : tie.Need-find-requires
 find-requires c κs = search needs
@@ -150,28 +147,12 @@ returns-4 c =
     let r = from-form f in
     at-extent _ _ _ (told (from-room r)) (fits r) (form f) (sym (ended (c .before .before)) ∙ c .enum-told6 .given .1)
 
-check-time-requires : tie.Need-check-time-requires
-check-time-requires c κs = search needs
-
-enum-known-minutes : tie.Need-enum-known-minutes
-enum-known-minutes c = search needs
-
-enum-told-7 : tie.Need-enum-told-7
-enum-told-7 c = search needs
-
 returns-5 : tie.Need-returns-5
 returns-5 c =
-    let x = c .before .before .before .before in
+    let x = c .before in
     let f = from-extent x in
     let r = from-form f in
-    at-time _ _ _ (told (from-room r)) (fits r) (form f) (ends x) (sym (timed (c .before .before)) ∙ c .enum-told7 .given .1)
-
-returns-6 : tie.Need-returns-6
-returns-6 c =
-    let x = c .before .before .before .before .before in
-    let f = from-extent x in
-    let r = from-form f in
-    at-end _ _ _ (told (from-room r)) (fits r) (form f) (ends x) (sym (timed (c .before .before .before)) ∙ c .before .minutes .given .1) (f .before .before .before .stated-of .ensures) (r .before .before .before .before .mark-of .ensures)
+    at-end _ _ _ (told (from-room r)) (fits r) (form f) (ends x) (f .before .before .before .stated-of .ensures) (r .before .before .before .before .mark-of .ensures)
 
 pub judge-spec : {M : Type 1} → statement M
 judge-spec =
@@ -199,8 +180,4 @@ judge-spec =
     enum-known-extent
     enum-told-6
     returns-4
-    check-time-requires
-    enum-known-minutes
-    enum-told-7
-    returns-5
-    returns-6)
+    returns-5)

@@ -18,11 +18,8 @@ of-product-requires-2 c κs = search needs
 of-product-requires-3 : tie.Need-of-product-requires-3
 of-product-requires-3 c κs = search needs
 
-of-product-requires-4 : tie.Need-of-product-requires-4
-of-product-requires-4 c κs = search needs
-
 returns : tie.Need-returns
-returns c = rw (c .before .before .before .before .before .of-entry .ensures, c .before .before .before .before .of-entry2 .ensures, c .before .before .before .of-product .ensures, c .before .before .of-product2 .ensures, c .before .of-product3 .ensures, c .of-product4 .ensures)
+returns c = rw (c .before .before .before .before .of-entry .ensures, c .before .before .before .of-entry2 .ensures, c .before .before .of-product .ensures, c .before .of-product2 .ensures, c .of-product3 .ensures)
 
 pub stated-of-spec : {M : Type 1} → statement M
 stated-of-spec =
@@ -33,5 +30,4 @@ stated-of-spec =
     of-product-requires
     of-product-requires-2
     of-product-requires-3
-    of-product-requires-4
     returns)

@@ -1,10 +1,11 @@
 -- `bytes::encode` meets its contract: a record without a bad value is stored in zeros, and the header left out. Assumes nothing.
-use mathlib.Core.Path.{sym, ap, _∙_}
+use mathlib.Core.Path.{ap, _∙_}
 use native.Mathlib.Omega.{arith}
 use lib.ListN.{drop}
 use borrow.Author.Needs.{needs}
+use Rattle.fields.proofs.Whole.{number-fits}
+use Rattle.ticket.specs.Kind.{kind}
 use Rattle.ticket.specs.Ticket.{encoded}
-use Rattle.ticket.proofs.Limits.{lowest-kept}
 use Rattle.ticket.proofs.Round.{encode-refused, encode-taken}
 use Rattle.ticket.proofs.bytes.encode.Statement.{statement}
 use Rattle.ticket.proofs.bytes.encode.Tie as tie
@@ -27,7 +28,7 @@ slice-aggregate-store-record-2 c = search needs
 store-record-requires : tie.Need-store-record-requires
 store-record-requires c κs =
     let i = c .before .before in
-    (omega arith, search needs, lowest-kept (c .before .before .before .before .before .before .args .t .values) (sym (i .before .record-number .ensures) ∙ i .if1 .left))
+    (number-fits kind (i .before .before .before .before .args .t .values) (i .before .record-number .ensures) (i .if1 .left), omega arith)
 
 without-header-requires : tie.Need-without-header-requires
 without-header-requires c κs = search needs

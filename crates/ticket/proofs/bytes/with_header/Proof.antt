@@ -2,8 +2,7 @@ use mathlib.Core.Path.{_≡_, refl}
 use mathlib.Core.List.{List, _∷_}
 use Prim.Native.Nat.{ℕ, _+_, _-_, _≤_}
 use native.Mathlib.Omega.{arith}
-use lib.ListN.{length, length-set}
-use Rattle.ticket.specs.Ticket.{zeros}
+use lib.ListN.{length, length-set, replicate}
 use Rattle.ticket.proofs.Headless.{with-more}
 use Rattle.fields.proofs.Loops.{Filled, fill-start, fill-more, fill-end}
 use Rattle.ticket.proofs.bytes.with_header.Statement.{statement}
@@ -15,8 +14,8 @@ Inv-loop bytes a₀ i₀ a i = (i ≤ 27) × (length a ≡ 29) × Filled (0 ∷ 
 abbrev μ-loop : tie.MeasureT-loop
 μ-loop bytes a₀ i₀ a i = 27 - i
 
-begin : (b : List ℕ) → length b ≡ 27 → Filled (0 ∷ 0 ∷ b) (zeros 29) 2
-begin b e = fill-more (0 ∷ 0 ∷ b) (zeros 29) 1 0 (omega arith) refl (fill-more (0 ∷ 0 ∷ b) (zeros 29) 0 0 (omega arith) refl (fill-start (0 ∷ 0 ∷ b) (zeros 29) (omega arith)))
+begin : (b : List ℕ) → length b ≡ 27 → Filled (0 ∷ 0 ∷ b) (replicate 29 0) 2
+begin b e = fill-more (0 ∷ 0 ∷ b) (replicate 29 0) 1 0 (omega arith) refl (fill-more (0 ∷ 0 ∷ b) (replicate 29 0) 0 0 (omega arith) refl (fill-start (0 ∷ 0 ∷ b) (replicate 29 0) (omega arith)))
 
 loop-holds : tie.Need-loop-holds Inv-loop μ-loop
 loop-holds c = (omega arith, refl, begin (c .args .t1) (omega arith))
