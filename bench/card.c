@@ -33,6 +33,7 @@ INLINE u32 le16(const u8 *p) { u16 x; __builtin_memcpy(&x, p, 2); return LITTLE(
 INLINE u32 le32(const u8 *p) { u32 x; __builtin_memcpy(&x, p, 4); return LITTLE(32, x); }
 
 INLINE void put16(u8 *p, u32 v) { u16 x = BIG(16, (u16)v); __builtin_memcpy(p, &x, 2); }
+INLINE void put32(u8 *p, u32 v) { u32 x = BIG(32, v); __builtin_memcpy(p, &x, 4); }
 INLINE void put64(u8 *p, u64 v) { u64 x = BIG(64, v); __builtin_memcpy(p, &x, 8); }
 
 /* ---- CRC, four bytes a step */
@@ -241,13 +242,29 @@ INLINE u32 open_entry(const u8 *image, size_t length, u64 entry, struct view *v)
     return code != 0 ? code : v->count == 0 ? 20 : 0;
 }
 
-/* 22 and 23; `product` is the first sector, which holds bits 0 to 231. */
-INLINE u32 judge_kind(const u8 *image, const struct view *v, u64 entry, const u8 *product)
+/* The kinds of ticket; those of TYP 22 have their revision. */
+enum { TYP_23, TYP_22_1, TYP_22_2, TYP_22_3 };
+
+/* Whether that is the entry's TYP, and the product's revision. */
+INLINE u32 has_typ(const u8 *image, const struct view *v, u64 entry, u32 typ) { return (be16(image + entry_at(v, entry) + 1) & 31 << 5) == typ << 5; }
+INLINE u32 has_revision(const u8 *product, u64 revision) { return (product[1] & 15u) == revision; }
+
+/* 22, and which kind it is. */
+INLINE u32 judge_kind(const u8 *image, const struct view *v, u64 entry, const u8 *product, u32 *kind)
 {
-    if ((be16(image + entry_at(v, entry) + 1) >> 5 & 31) != 23 || (product[1] & 15) != 2) return 22;
+    if (has_typ(image, v, entry, 23) && has_revision(product, 2)) {
+        *kind = TYP_23;
+        return 0;
+    }
+    *kind = product[1] & 15;
+    return has_typ(image, v, entry, 22) && *kind - 1 < 3 ? 0 : 22;
+}
+
+/* 23; `product` is the first sector, which holds bits 0 to 231. */
+INLINE u32 judge_length(const struct view *v, const u8 *product, u32 kind)
+{
     u32 dataset = product[0] & 0xFC; /* 4 x IPELength */
-    if (dataset < 32 || dataset > v->count * v->B) return 23;
-    return 0;
+    return dataset < (kind - 1 < 2 ? 28 : 32) || dataset > v->count * v->B ? 23 : 0;
 }
 
 /* ---- ticket read */
@@ -265,26 +282,21 @@ INLINE void copy_sector(u8 *to, const u8 *from, size_t n)
     __builtin_memcpy(to + n - 64, from + n - 64, 64);
 }
 
-/* All that a read refuses; if nothing, copies the product. */
-INLINE u32 read_product(const u8 *image, size_t length, u64 entry, u8 *buffer, size_t size, struct view *v)
+/* Copies the product. */
+INLINE void copy_product(const u8 *image, const struct view *v, u64 entry, u8 *buffer)
 {
-    u32 code = open_entry(image, length, entry, v);
-    if (code != 0) return code;
-    u32 s = (u32)entry, B = v->B, psi = v->psi, left = v->count;
-    if (size < left * B) return 21;
     const u8 *sectors = image + 4, *before = image + v->before;
-    code = judge_kind(image, v, entry, sectors + s * B);
-    if (code != 0) return code;
+    u32 s = (u32)entry, B = v->B, psi = v->psi, left = v->count;
     for (;;) {
         copy_sector(buffer, sectors + s * B, B);
-        if (--left == 0) return 0;
+        if (--left == 0) return;
         buffer += B;
         s = psi == 8 ? before[s] : element(before, s, psi);
     }
 }
 
-/* The twenty-two, from bit 16 of the product. */
-INLINE void decode_record(const u8 in[27], u64 value[22])
+/* The values of each kind, from bit 16 of the product, and zeros after them. */
+INLINE void decode_23(const u8 in[27], u64 value[25])
 {
     value[0] = in[0];
     value[1] = be16(in + 1);
@@ -308,13 +320,114 @@ INLINE void decode_record(const u8 in[27], u64 value[22])
     value[19] = be32(in + 20);
     value[20] = in[24];
     value[21] = be16(in + 25);
+    value[22] = value[23] = value[24] = 0;
+}
+
+/* The eleven that TYP 22 has in every revision. */
+INLINE void decode_22(const u8 in[11], u64 value[11])
+{
+    value[0] = in[0];
+    value[1] = be32(in + 1) >> 16;
+    value[2] = be32(in + 1) & 0xFFFF;
+    value[3] = in[5] >> 6;
+    value[4] = in[5] & 63;
+    value[5] = be32(in + 6) >> 18;
+    value[6] = be32(in + 6) >> 7 & 0x7FF;
+    value[7] = in[9] >> 6 & 1;
+    value[8] = in[9] & 63;
+    value[9] = in[10] >> 5;
+    value[10] = in[10] & 31;
+}
+
+/* And the eight more of revisions 1 and 2. */
+INLINE void decode_22_1_and_2(const u8 in[20], u64 value[19])
+{
+    decode_22(in, value);
+    value[11] = be32(in + 10) & 0xFFFFFF;
+    value[12] = in[14];
+    value[13] = in[15];
+    value[14] = in[16];
+    value[15] = in[17];
+    value[16] = in[18];
+    value[17] = in[19] >> 4;
+    value[18] = in[19] & 15;
+}
+
+INLINE void decode_22_1(const u8 in[24], u64 value[25])
+{
+    decode_22_1_and_2(in, value);
+    value[19] = be32(in + 20) >> 16;
+    value[20] = in[22] >> 4;
+    value[21] = be32(in + 20) & 0xFFF;
+    value[22] = value[23] = value[24] = 0;
+}
+
+INLINE void decode_22_2(const u8 in[26], u64 value[25])
+{
+    decode_22_1_and_2(in, value);
+    value[19] = be32(in + 20);
+    value[20] = in[24] >> 4;
+    value[21] = be32(in + 22) & 0xFFF;
+    value[22] = value[23] = value[24] = 0;
+}
+
+INLINE void decode_22_3(const u8 in[27], u64 value[25])
+{
+    decode_22(in, value);
+    value[11] = in[11] >> 6;
+    value[12] = be32(in + 9) & 0x3FFF;
+    value[13] = in[13] >> 3;
+    value[14] = be32(in + 11) & 0x7FF;
+    value[15] = in[15];
+    value[16] = in[16];
+    value[17] = in[17];
+    value[18] = in[18];
+    value[19] = in[19];
+    value[20] = in[20] >> 4;
+    value[21] = in[20] & 15;
+    value[22] = be32(in + 21);
+    value[23] = in[25] >> 4;
+    value[24] = be32(in + 23) & 0xFFF;
+}
+
+/* All that a read refuses; if nothing, the values and the end. */
+INLINE u32 read_values(const u8 *image, size_t length, u64 entry, size_t size, struct view *v, card_ticket *t)
+{
+    u32 kind, code = open_entry(image, length, entry, v);
+    if (code != 0) return code;
+    if (size < v->count * v->B) return 21;
+    const u8 *product = image + sector_at(v, (u32)entry);
+    code = judge_kind(image, v, entry, product, &kind);
+    if (code != 0) return code;
+    code = judge_length(v, product, kind);
+    if (code != 0) return code;
+    u32 stamp = be16(image + entry_at(v, entry) + 3) & 0x3FFF;
+    u64 midnight = (stamp != 0 ? stamp : 16384) * 1440;
+    t->header[0] = product[0] >> 2;
+    t->header[1] = be16(product) >> 4 & 63;
+    t->header[2] = product[1] & 15;
+    if (kind == TYP_23) {
+        t->typ = 23;
+        decode_23(product + 2, t->values);
+        t->end = midnight + t->values[8];
+        return 0;
+    }
+    t->typ = 22;
+    if (kind == TYP_22_3)
+        decode_22_3(product + 2, t->values);
+    else if (kind == TYP_22_2)
+        decode_22_2(product + 2, t->values);
+    else
+        decode_22_1(product + 2, t->values);
+    t->end = midnight + t->values[6];
+    return 0;
 }
 
 card_ticket card_read_ticket(const u8 *image, size_t length, size_t entry, u8 *buffer, size_t size)
 {
     struct view v;
     card_ticket t;
-    u32 code = read_product(image, length, entry, buffer, size, &v);
+    u32 code = read_values(image, length, entry, size, &v, &t);
     if (code != 0) {
         memset(&t, 0, sizeof t);
         card_answer a = refused(code, entry);
@@ -324,14 +437,9 @@ card_ticket card_read_ticket(const u8 *image, size_t length, size_t entry, u8 *b
     }
     t.number = 0;
     t.entry = 0;
-    t.header[0] = buffer[0] >> 2;
-    t.header[1] = be16(buffer) >> 4 & 63;
-    t.header[2] = buffer[1] & 15;
-    decode_record(buffer + 2, t.values);
-    u32 stamp = be16(image + entry_at(&v, entry) + 3) & 0x3FFF;
-    t.end = (stamp != 0 ? stamp : 16384) * 1440 + t.values[8];
     t.mark = mark_of(&v);
     t.sectors = v.count;
+    copy_product(image, &v, entry, buffer);
     return t;
 }
 
@@ -347,30 +455,37 @@ struct field {
 #define WINDOW(first) ((first) / 8 < 21 ? (first) / 8 : 21)
 #define SHIFT(first, width) (64 + 8 * WINDOW(first) - (first) - (width))
 #define MOST(width) (((u64)1 << (width)) - 1)
-#define FIELD(first, width) { ~(MOST(width) << SHIFT(first, width)), (u32)MOST(width), WINDOW(first), SHIFT(first, width) }
+#define FIELD(first, width) { ~(MOST(width) << SHIFT(first, width)), (u32)MOST(width), WINDOW(first), SHIFT(first, width) },
 
-static const struct field fields[22] = {
-    FIELD(16, 8),   FIELD(24, 16),  FIELD(40, 8),   FIELD(48, 2),  FIELD(50, 6),   FIELD(56, 2),
-    FIELD(58, 14),  FIELD(72, 5),   FIELD(77, 11),  FIELD(88, 5),  FIELD(93, 3),
-    FIELD(96, 8),   FIELD(104, 8),  FIELD(112, 8),  FIELD(120, 4), FIELD(124, 4),  FIELD(128, 32),
-    FIELD(160, 4),  FIELD(164, 12), FIELD(176, 32), FIELD(208, 8), FIELD(216, 16),
-};
+/* The lists of all kinds. */
+#define LIST_23(F) \
+    F(16, 8) F(24, 16) F(40, 8) F(48, 2) F(50, 6) F(56, 2) F(58, 14) F(72, 5) F(77, 11) F(88, 5) F(93, 3) \
+    F(96, 8) F(104, 8) F(112, 8) F(120, 4) F(124, 4) F(128, 32) F(160, 4) F(164, 12) F(176, 32) F(208, 8) F(216, 16)
+#define LIST_22(F) F(16, 8) F(24, 16) F(40, 16) F(56, 2) F(58, 6) F(64, 14) F(78, 11) F(89, 1) F(90, 6) F(96, 3) F(99, 5)
+#define LIST_22_1_AND_2(F) LIST_22(F) F(104, 24) F(128, 8) F(136, 8) F(144, 8) F(152, 8) F(160, 8) F(168, 4) F(172, 4)
+#define LIST_22_1(F) LIST_22_1_AND_2(F) F(176, 16) F(192, 4) F(196, 12)
+#define LIST_22_2(F) LIST_22_1_AND_2(F) F(176, 32) F(208, 4) F(212, 12)
+#define LIST_22_3(F) \
+    LIST_22(F) F(104, 2) F(106, 14) F(120, 5) F(125, 11) F(136, 8) F(144, 8) F(152, 8) F(160, 8) F(168, 8) F(176, 4) F(180, 4) \
+    F(184, 32) F(216, 4) F(220, 12)
 
-/* The bits that must be zero in each of the twenty-two. */
-static const u64 too_wide[22] = {
-    ~0xFFull, ~0xFFFFull, ~0xFFull, ~3ull, ~63ull, ~3ull, ~0x3FFFull, ~31ull, ~0x7FFull, ~31ull, ~7ull, ~0xFFull, ~0xFFull,
-    ~0xFFull, ~15ull, ~15ull, ~0xFFFFFFFFull, ~15ull, ~0xFFFull, ~0xFFFFFFFFull, ~0xFFull, ~0xFFFFull,
-};
+static const struct field fields[4][25] = { { LIST_23(FIELD) }, { LIST_22_1(FIELD) }, { LIST_22_2(FIELD) }, { LIST_22_3(FIELD) } };
 
-INLINE u32 bad_record(const u64 value[22])
+INLINE u32 count_of(u32 kind) { return kind == TYP_22_3 ? 25 : 22; }
+
+/* The bits that must be zero in each value. */
+#define TOO_WIDE(first, width) ~MOST(width),
+static const u64 too_wide[4][25] = { { LIST_23(TOO_WIDE) }, { LIST_22_1(TOO_WIDE) }, { LIST_22_2(TOO_WIDE) }, { LIST_22_3(TOO_WIDE) } };
+
+INLINE u32 bad_record(const u64 value[25], u32 kind)
 {
     u64 over = 0;
-    for (u32 i = 0; i < 22; i++) over |= value[i] & too_wide[i];
+    for (u32 i = 0; i < count_of(kind); i++) over |= value[i] & too_wide[kind][i];
     return over != 0;
 }
 
 /* Bits 16 to 231, by four words of which each mends the one before. */
-INLINE void encode_record(const u64 v[22], u8 out[27])
+INLINE void encode_23(const u64 v[22], u8 out[27])
 {
     u64 a = v[0] << 56 | v[1] << 40 | v[2] << 32 | v[3] << 30 | v[4] << 24 | v[5] << 22 | v[6] << 8;
     u64 b = v[7] << 59 | v[8] << 48 | v[9] << 43 | v[10] << 40 | v[11] << 32 | v[12] << 24 | v[13] << 16 | v[14] << 12 | v[15] << 8;
@@ -382,36 +497,104 @@ INLINE void encode_record(const u64 v[22], u8 out[27])
     put64(out + 19, d);
 }
 
-/* What field and record writes refuse alike: 1 to 11, 20, 27, 22, 23. */
+/* Bits 16 to 79 of every TYP 22, and of the next word those up to 103: the words meet within ExpiryTime. */
+INLINE u64 first_22(const u64 v[7]) { return v[0] << 56 | v[1] << 40 | v[2] << 24 | v[3] << 22 | v[4] << 16 | v[5] << 2 | v[6] >> 9; }
+INLINE u64 second_22(const u64 v[11]) { return v[6] << 55 | v[7] << 54 | v[8] << 48 | v[9] << 45 | v[10] << 40; }
+
+INLINE void encode_22_1(const u64 v[22], u8 out[24])
+{
+    u64 a = first_22(v);
+    u64 b = second_22(v) | v[11] << 16 | v[12] << 8 | v[13];
+    u64 c = v[14] << 56 | v[15] << 48 | v[16] << 40 | v[17] << 36 | v[18] << 32 | v[19] << 16 | v[20] << 12 | v[21];
+    put64(out, a);
+    put64(out + 8, b);
+    put64(out + 16, c);
+}
+
+INLINE void encode_22_2(const u64 v[22], u8 out[26])
+{
+    u64 a = first_22(v);
+    u64 b = second_22(v) | v[11] << 16 | v[12] << 8 | v[13];
+    u64 c = v[14] << 56 | v[15] << 48 | v[16] << 40 | v[17] << 36 | v[18] << 32 | v[19];
+    u64 d = v[20] << 12 | v[21];
+    put64(out, a);
+    put64(out + 8, b);
+    put64(out + 16, c);
+    put16(out + 24, (u32)d);
+}
+
+/* The last two words have a byte of AmountPaid in common. */
+INLINE void encode_22_3(const u64 v[25], u8 out[27])
+{
+    u64 a = first_22(v);
+    u64 b = second_22(v) | v[11] << 38 | v[12] << 24 | v[13] << 19 | v[14] << 8 | v[15];
+    u64 c = v[16] << 56 | v[17] << 48 | v[18] << 40 | v[19] << 32 | v[20] << 28 | v[21] << 24 | v[22] >> 8;
+    u64 d = v[22] << 16 | v[23] << 12 | v[24];
+    put64(out, a);
+    put64(out + 8, b);
+    put64(out + 16, c);
+    put32(out + 23, (u32)d);
+}
+
+/* What field and record writes refuse alike, before the kind: 1 to 11, 20, 27. */
 INLINE u32 open_write(const u8 *image, size_t length, u64 entry, struct view *v)
 {
     u32 code = open_entry(image, length, entry, v);
+    return code != 0 ? code : v->link == v->S - 2 ? 27 : 0;
+}
+
+/* 23, 25, 26, or the value is stored. */
+INLINE u32 put_field(const struct view *v, u8 *product, u32 kind, u64 field, u64 value)
+{
+    u32 code = judge_length(v, product, kind);
     if (code != 0) return code;
-    if (v->link == v->S - 2) return 27;
-    return judge_kind(image, v, entry, image + sector_at(v, (u32)entry));
+    if (field - 1 >= count_of(kind)) return 25;
+    const struct field *f = &fields[kind][field - 1];
+    if (value > f->most) return 26;
+    u8 *p = product + f->at;
+    put64(p, (be64(p) & f->keep) | value << f->shift);
+    return 0;
 }
 
 card_answer card_write_field(u8 *image, size_t length, size_t entry, size_t field, u64 value)
 {
     struct view v;
-    u32 code = open_write(image, length, entry, &v);
+    u32 kind, code = open_write(image, length, entry, &v);
     if (code != 0) return refused(code, entry);
-    if (field - 1 >= 22) return refused(25, entry);
-    const struct field *f = &fields[field - 1];
-    if (value > f->most) return refused(26, entry);
-    u8 *p = image + sector_at(&v, (u32)entry) + f->at;
-    put64(p, (be64(p) & f->keep) | value << f->shift);
-    return TAKEN;
+    u8 *product = image + sector_at(&v, (u32)entry);
+    code = judge_kind(image, &v, entry, product, &kind);
+    if (code == 0) code = kind == TYP_23 ? put_field(&v, product, TYP_23, field, value) : put_field(&v, product, kind, field, value);
+    return code != 0 ? refused(code, entry) : TAKEN;
 }
 
-card_answer card_write_record(u8 *image, size_t length, size_t entry, const u64 value[22])
+/* 26, or the values are stored; TYP 22 in functions of its own, so that each kind has the registers to itself. */
+#define STORE(where, store, kind, encode) \
+    where card_answer store(const u64 value[25], u8 *out, u64 entry) \
+    { \
+        if (bad_record(value, kind)) return (card_answer){ 26, entry }; \
+        encode(value, out); \
+        return TAKEN; \
+    }
+STORE(INLINE, store_23, TYP_23, encode_23)
+STORE(STAGE, store_22_1, TYP_22_1, encode_22_1)
+STORE(STAGE, store_22_2, TYP_22_2, encode_22_2)
+STORE(STAGE, store_22_3, TYP_22_3, encode_22_3)
+
+card_answer card_write_record(u8 *image, size_t length, size_t entry, u64 typ, u64 revision, const u64 value[25])
 {
     struct view v;
     u32 code = open_write(image, length, entry, &v);
     if (code != 0) return refused(code, entry);
-    if (bad_record(value)) return refused(26, entry);
-    encode_record(value, image + sector_at(&v, (u32)entry) + 2);
-    return TAKEN;
+    u8 *product = image + sector_at(&v, (u32)entry);
+    if (typ == 23 && revision == 2) {
+        if (!has_typ(image, &v, entry, 23) || !has_revision(product, 2)) return (card_answer){ 22, entry };
+        if (judge_length(&v, product, TYP_23)) return (card_answer){ 23, entry };
+        return store_23(value, product + 2, entry);
+    }
+    if (typ != 22 || revision - 1 >= 3 || !has_typ(image, &v, entry, 22) || !has_revision(product, revision)) return (card_answer){ 22, entry };
+    if (judge_length(&v, product, (u32)revision)) return (card_answer){ 23, entry };
+    if (revision == 3) return store_22_3(value, product + 2, entry);
+    return revision == 2 ? store_22_2(value, product + 2, entry) : store_22_1(value, product + 2, entry);
 }
 
 card_answer card_mark(u8 *image, size_t length, size_t entry, size_t mark)

@@ -56,22 +56,37 @@ static inline void blank(size_t s, size_t b, size_t e, size_t dataset)
     image[4 + dataset - 1] = sum & 255;
 }
 
-/* Entry j has a ticket. */
-static inline void ticket(size_t j)
+/* The kinds of ticket: TYP, revision, the least IPELength, which value ExpiryTime is, and the fields' widths. */
+enum { TYP_23, TYP_22_1, TYP_22_2, TYP_22_3, KINDS };
+static const struct { uint8_t typ, revision, blocks, expiry, count, widths[25]; } kinds[KINDS] = {
+    { 23, 2, 8, 8, 22, { 8, 16, 8, 2, 6, 2, 14, 5, 11, 5, 3, 8, 8, 8, 4, 4, 32, 4, 12, 32, 8, 16 } },
+    { 22, 1, 7, 6, 22, { 8, 16, 16, 2, 6, 14, 11, 1, 6, 3, 5, 24, 8, 8, 8, 8, 8, 4, 4, 16, 4, 12 } },
+    { 22, 2, 7, 6, 22, { 8, 16, 16, 2, 6, 14, 11, 1, 6, 3, 5, 24, 8, 8, 8, 8, 8, 4, 4, 32, 4, 12 } },
+    { 22, 3, 8, 6, 25, { 8, 16, 16, 2, 6, 14, 11, 1, 6, 3, 5, 2, 14, 5, 11, 8, 8, 8, 8, 8, 4, 4, 32, 4, 12 } },
+};
+
+/* The largest value of a field, from 0. */
+static inline uint64_t limit_of(size_t kind, size_t field) { return ((uint64_t)1 << kinds[kind].widths[field]) - 1; }
+
+/* Entry j has a product with this TYP and this header. */
+static inline void product(size_t j, size_t typ, size_t revision, size_t blocks)
 {
-    uint8_t entry[5] = { 0, 6, 0xE1, 0x23, j };
+    uint8_t entry[5] = { 0, 4 | typ >> 3, (typ & 7) << 5 | 1, 0x23, j };
     for (size_t i = 0; i < 5; i++)
         image[directory + 2 + 5 * (j - 1) + i] = entry[i];
-    image[4 + j * size] = 8 << 2;
-    image[4 + j * size + 1] = 2;
+    image[4 + j * size] = blocks << 2;
+    image[4 + j * size + 1] = revision;
 }
+
+/* Entry j has a ticket of this kind. */
+static inline void ticket(size_t j, size_t kind) { product(j, kinds[kind].typ, kinds[kind].revision, kinds[kind].blocks); }
 
 /* A ticket at each entry j, used where j is odd and else fresh, in a chain of counts[j - 1] sectors: j, then those above e# in turn. */
 static inline void chains(const size_t *counts)
 {
     size_t next = entries + 1;
     for (size_t j = 1; j <= entries; j++) {
-        ticket(j);
+        ticket(j, TYP_23);
         size_t at = j;
         for (size_t k = 1; k < counts[j - 1]; k++) {
             element(at, next);

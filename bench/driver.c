@@ -1,6 +1,7 @@
 /* What bench/run measures. Each call that is counted stands between count_begin and count_end; each row prints its name, its number of counted
    calls and a sum of the answers and of the bytes they left, so that two programs can be seen to do the same work.
-     driver table        each call on the small, the middle and the large card; the worst cards; two equal large cards compared
+     driver table        each call on the small, the middle and the large card, whose tickets are of TYP 23, then some where they are of TYP 22
+                         revision 3; the worst cards; two equal large cards compared
      driver growth       pairs of calls, and by how much the second has more of something
      driver nasty        a check of each nasty card
      driver same FROM N  every call on N cards damaged at random, uncounted */
@@ -26,10 +27,10 @@ static void add_bytes(const uint8_t *p, size_t n)
 
 static void add_ticket(const card_ticket *t)
 {
-    add(t->number), add(t->entry), add(t->end), add(t->mark), add(t->sectors);
+    add(t->number), add(t->entry), add(t->typ), add(t->end), add(t->mark), add(t->sectors);
     for (size_t i = 0; i < 3; i++)
         add(t->header[i]);
-    for (size_t i = 0; i < 22; i++)
+    for (size_t i = 0; i < 25; i++)
         add(t->values[i]);
 }
 
@@ -42,9 +43,12 @@ static size_t any(size_t n)
     return (state >> 33) % n;
 }
 
-static const uint64_t limits[22] = {
-    255, 65535, 255, 3, 63, 3, 16383, 31, 2047, 31, 7, 255, 255, 255, 15, 15, 0xFFFFFFFF, 15, 4095, 0xFFFFFFFF, 255, 65535,
-};
+/* Values that fit a kind; those after its list would fit none. */
+static void any_values(uint64_t values[25], size_t kind)
+{
+    for (size_t i = 0; i < 25; i++)
+        values[i] = i < kinds[kind].count ? any(limit_of(kind, i) + 1) : state | (uint64_t)1 << 63;
+}
 
 static void row(const char *name, const char *card, size_t calls)
 {
@@ -69,10 +73,42 @@ static const struct { const char *what; char call; size_t cards[2][5], more; } g
     { "touched: a sector of 255 bytes, the same in both", 'd', { { 237, 1, 1, 11, 24 }, { 237, 1, 1, 211, 24 } }, 200 },
 };
 
+/* The kind that a TYP and a revision are. */
+static size_t kind_of(size_t typ, size_t revision)
+{
+    size_t kind = 0;
+    while (kind < KINDS && (typ != kinds[kind].typ || revision != kinds[kind].revision))
+        kind++;
+    return kind;
+}
+
+/* The TYP and the revision of what entry j names, as far as the card has such an entry. */
+static void named(size_t j, size_t *typ, size_t *revision)
+{
+    *typ = *revision = 0;
+    if (j - 1 < entries) {
+        const uint8_t *entry = image + directory + 2 + 5 * (j - 1);
+        *typ = (entry[1] & 3) << 3 | entry[2] >> 5;
+        *revision = image[4 + j * size + 1] & 15;
+    }
+}
+
+/* The field of the ticket at entry j becomes a value. */
+static void put_field(size_t j, size_t kind, size_t field, uint64_t value)
+{
+    size_t bit = 16;
+    for (size_t i = 0; i < field; i++)
+        bit += kinds[kind].widths[i];
+    for (size_t width = kinds[kind].widths[field]; width-- > 0; bit++) {
+        uint8_t *p = image + 4 + j * size + bit / 8, one = 0x80 >> bit % 8;
+        *p = (*p & ~one) | (value >> width & 1 ? one : 0);
+    }
+}
+
 static void damage(void)
 {
     for (size_t n = any(4); n-- > 0;) {
-        size_t what = any(11);
+        size_t what = any(12), j = 1 + any(entries), typ, revision;
         if (what < 5)
             element(1 + any(sectors - 3), any(3) ? any(1 << psi) : sectors - 1 - any(2));
         if (what == 5)
@@ -80,18 +116,19 @@ static void damage(void)
         if (what == 6)
             image[directory + any(size)] = any(256);
         if (what == 7)
-            image[4 + (1 + any(entries)) * size + any(30)] = any(256);
+            image[4 + j * size + any(30)] = any(256);
         if (what == 8)
-            for (size_t j = 1 + any(entries), i = 0; i < 5; i++)
+            for (size_t i = 0; i < 5; i++)
                 image[directory + 2 + 5 * (j - 1) + i] = 0;
         if (what == 9)
             image[table + any(table_size)] = any(256);
         if (what == 10) { /* ExpiryTime 1,439, 1,440 or 2,047 */
-            uint8_t *p = image + 4 + (1 + any(entries)) * size;
-            size_t time = any(3) ? 1439 + any(2) : 2047;
-            p[9] = time >> 8;
-            p[10] = time & 255;
+            named(j, &typ, &revision);
+            size_t kind = kind_of(typ, revision) % KINDS;
+            put_field(j, kind, kinds[kind].expiry, any(3) ? 1439 + any(2) : 2047);
         }
+        if (what == 11) /* beside the kinds that there are, and beside their lengths */
+            product(j, 21 + any(4), any(5), 6 + any(4));
     }
     size_t dataset = image[4] & 0xFC;
     if (any(4) && dataset >= 4) {
@@ -124,6 +161,16 @@ static void any_card(void)
             left -= (counts[j] = 1 + any(left + 1 < 6 ? left + 1 : 6)) - 1;
         chains(counts);
     }
+    for (size_t j = 1; j <= entries; j++) {
+        size_t kind = any(KINDS);
+        if (any(3)) {
+            ticket(j, kind);
+            for (size_t i = 2; i < 32; i++)
+                image[4 + j * size + i] = any(256);
+            if (any(4) == 0)
+                image[4 + j * size] = any(64) << 2;
+        }
+    }
     if (any(3) == 0) { /* copy B */
         image[3] = 1;
         memcpy(image + directory + size, image + directory, size);
@@ -141,7 +188,7 @@ int main(int argc, char **argv)
     const char *work = argc > 1 ? argv[1] : "";
     card_answer a;
     card_ticket t;
-    uint64_t values[22];
+    uint64_t values[25];
 
     if (!strcmp(work, "table")) {
         for (size_t c = 0; c < 3; c++) {
@@ -158,15 +205,14 @@ int main(int argc, char **argv)
             }
             row("ticket read", names[c], ROUNDS);
             for (size_t r = 0; r < ROUNDS; r++) {
-                uint64_t value = any(limits[r % 22] + 1);
+                uint64_t value = any(limit_of(TYP_23, r % 22) + 1);
                 COUNTED(a = card_write_field(image, length, 1 + r % entries, 1 + r % 22, value));
                 add(a.number), add(a.entry);
             }
             row("field write", names[c], ROUNDS);
             for (size_t r = 0; r < ROUNDS; r++) {
-                for (size_t i = 0; i < 22; i++)
-                    values[i] = any(limits[i] + 1);
-                COUNTED(a = card_write_record(image, length, 1 + r % entries, values));
+                any_values(values, TYP_23);
+                COUNTED(a = card_write_record(image, length, 1 + r % entries, 23, 2, values));
                 add(a.number), add(a.entry);
             }
             row("record write", names[c], ROUNDS);
@@ -181,6 +227,22 @@ int main(int argc, char **argv)
                 add(a.number), add(a.entry);
             }
             row("mark, stored", names[c], ROUNDS);
+        }
+        for (size_t c = 0; c < 3; c++) {
+            make[c]();
+            for (size_t j = 1; j <= entries; j++)
+                ticket(j, TYP_22_3);
+            for (size_t r = 0; r < ROUNDS; r++) {
+                COUNTED(t = card_read_ticket(image, length, 1 + r % entries, buffer, sizeof buffer));
+                add_ticket(&t);
+            }
+            row("ticket read, 22/3", names[c], ROUNDS);
+            for (size_t r = 0; r < ROUNDS; r++) {
+                any_values(values, TYP_22_3);
+                COUNTED(a = card_write_record(image, length, 1 + r % entries, 22, 3, values));
+                add(a.number), add(a.entry);
+            }
+            row("record write, 22/3", names[c], ROUNDS);
         }
         for (size_t c = 0; c < 4; c++) {
             static const char *const worst[] = { "all share", "all share but the last, in a loop", "all share", "all sectors in chains" };
@@ -202,7 +264,7 @@ int main(int argc, char **argv)
                 const size_t *c = growths[g].cards[i];
                 blank(c[0], 255, c[1], c[4]);
                 for (size_t j = 1; j <= c[2]; j++) {
-                    ticket(j);
+                    ticket(j, TYP_23);
                     element(j, sectors - 1);
                 }
                 if (c[3] > 1) {
@@ -239,19 +301,39 @@ int main(int argc, char **argv)
                 image[1] = length;
             }
             size_t e = any(8) ? 1 + any(entries) : any(300), given = any(20) ? length : any(200), room = any(4) ? sizeof buffer : any(300);
-            size_t numbers[6], field = any(24);
+            size_t numbers[6], field = any(28), typ, revision, kind, took[2] = { KINDS, KINDS };
+            named(e, &typ, &revision);
+            kind = kind_of(typ, revision);
             a = card_check(image, given);
             add(numbers[0] = a.number), add(a.entry);
             t = card_read_ticket(image, given, e, buffer, room);
             numbers[1] = t.number;
+            if (t.number == 0)
+                took[0] = kind;
             add_ticket(&t);
             add_bytes(buffer, 600);
-            a = card_write_field(image, given, e, field, field - 1 < 22 && any(4) ? limits[field - 1] + any(2) : any(1 << 30));
+            if (kind == KINDS)
+                kind = any(KINDS);
+            a = card_write_field(image, given, e, field, field - 1 < kinds[kind].count && any(4) ? limit_of(kind, field - 1) + any(2) : any(1 << 30));
             add(numbers[2] = a.number), add(a.entry);
-            for (size_t i = 0; i < 22; i++)
-                values[i] = any(10) ? any(limits[i] + 1) : limits[i] + (any(10) == 0);
-            a = card_write_record(image, given, e, values);
+            if (any(6) == 0) { /* a record of another kind, or of none */
+                if (any(2))
+                    kind = any(KINDS);
+                typ = kinds[kind].typ;
+                revision = kinds[kind].revision;
+                if (any(4) == 0)
+                    typ += any(2) ? 256 : any(2) ? (uint64_t)1 << 32 : any(3) - 1;
+                if (any(4) == 0)
+                    revision += any(2) ? 16 : any(2) ? (uint64_t)1 << 32 : any(3) - 1;
+            }
+            any_values(values, kind);
+            for (size_t i = 0; i < kinds[kind].count; i++)
+                if (any(10) == 0)
+                    values[i] = limit_of(kind, i) + (any(10) == 0);
+            a = card_write_record(image, given, e, typ, revision, values);
             add(numbers[3] = a.number), add(a.entry);
+            if (a.number == 0)
+                took[1] = kind;
             a = card_mark(image, given, e, any(4));
             add(numbers[4] = a.number), add(a.entry);
             add_bytes(image, length);
@@ -263,6 +345,8 @@ int main(int argc, char **argv)
             printf("%lu", n);
             for (size_t i = 0; i < 6; i++)
                 printf(" %lu", numbers[i]);
+            for (size_t i = 0; i < 2; i++)
+                took[i] < KINDS ? printf(" %d/%d", kinds[took[i]].typ, kinds[took[i]].revision) : printf(" -");
             printf(" %lx\n", sum);
         }
     return 0;

@@ -17,15 +17,24 @@ static void need(const char *call, size_t number, size_t entry)
     exit(1);
 }
 
+/* The numbers of some fields by kind, from the lists in card.h: IssueDate, PartySizeAdult, PartySizeChild, AmountPaid. */
+static const struct { uint64_t typ, revision; size_t issued, adults, children, paid; } KINDS[] = {
+    { 23, 2, 7, 12, 13, 17 }, { 22, 1, 6, 15, 16, 20 }, { 22, 2, 6, 15, 16, 20 }, { 22, 3, 6, 18, 19, 23 },
+};
+
 static void print_ticket(card_ticket t)
 {
-    card_date issued = card_date_of(t.values[7 - 1]);
+    size_t k = 0; /* one of these it is: any other kind was refused with 22 */
+    while (KINDS[k].typ != t.typ || KINDS[k].revision != t.header[3 - 1])
+        k++;
+    card_date issued = card_date_of(t.values[KINDS[k].issued - 1]);
     need("the date of issue", issued.number, issued.entry);
+    printf("kind        TYP %u revision %u\n", (unsigned)t.typ, (unsigned)t.header[3 - 1]);
     printf("issued      %04u-%02u-%02u\n", (unsigned)issued.year, (unsigned)issued.month, (unsigned)issued.day);
     printf("ends        minute %u after 1 January 1997\n", (unsigned)t.end);
-    printf("adults      %u\n", (unsigned)t.values[12 - 1]);
-    printf("children    %u\n", (unsigned)t.values[13 - 1]);
-    printf("paid        %u\n", (unsigned)t.values[17 - 1]);
+    printf("adults      %u\n", (unsigned)t.values[KINDS[k].adults - 1]);
+    printf("children    %u\n", (unsigned)t.values[KINDS[k].children - 1]);
+    printf("paid        %u\n", (unsigned)t.values[KINDS[k].paid - 1]);
     printf("mark        %s\n", MARKS[t.mark]);
     printf("sectors     %zu\n", t.sectors);
 }

@@ -11,7 +11,7 @@ enum { SMALLEST, LARGEST, WORST, ROOM = 1 << 18 };
 
 static uint8_t stack[ROOM] __attribute__((aligned(64)));
 static uint8_t saved[65536], buffer[65536], flags[256], bytes[256];
-static uint64_t result[64], values[22], elements[252];
+static uint64_t result[64], values[25], elements[252];
 
 /* Calls f with six words on the stack that ends at `top`; its first word of answer. */
 size_t call_on(void (*f)(void), uint8_t *top, const size_t *words);
@@ -62,7 +62,8 @@ static void use(int column, enum numbered numbered, const char *name, void (*f)(
 #define USE(numbered, f, ...) use(column, numbered, #f, (void (*)(void))f, (size_t[6]){ __VA_ARGS__ })
 #define AT(p) ((size_t)(p))
 
-static void on_image(int column)
+/* The card's tickets, if it has any that is read, are of this kind. */
+static void on_image(int column, size_t kind)
 {
     memcpy(saved, image, sizeof image);
     USE(ANSWER, card_check, AT(image), length);
@@ -74,19 +75,24 @@ static void on_image(int column)
     USE(RESULT, card_read_ticket, AT(result), AT(image), length, 1, AT(buffer), sizeof buffer);
     USE(RESULT, card_fill, AT(result), AT(image), length, 1, AT(buffer), sizeof buffer);
     USE(ANSWER, card_write_field, AT(image), length, 1, 17, 250);
-    USE(ANSWER, card_write_record, AT(image), length, 1, AT(values));
+    USE(ANSWER, card_write_record, AT(image), length, 1, kinds[kind].typ, kinds[kind].revision, AT(values));
     USE(ANSWER, card_mark, AT(image), length, 1, 2);
     USE(ANSWER, card_touched, AT(saved), length, AT(image), length, AT(flags), entries);
 }
+
+/* Each kind of record; on the worst inputs also one of no kind. */
+#define EACH_KIND \
+    for (size_t kind = 0, typ, revision; typ = kind < KINDS ? kinds[kind].typ : ~0ull, revision = kind < KINDS ? kinds[kind].revision : ~0ull, \
+         kind < KINDS + (column == WORST); kind++)
 
 static void on_values(int column, size_t s, size_t blocks)
 {
     for (size_t i = 0; i < 252; i++)
         elements[i] = column == WORST ? 256 : 1;
-    for (size_t i = 0; i < 22; i++)
+    for (size_t i = 0; i < 25; i++)
         values[i] = column == WORST ? ~0ull : 0;
-    USE(RESULT, card_record_set, AT(result), AT(values), column == WORST ? 23 : 17, 250);
-    USE(RESULT, card_record_value, AT(result), AT(values), column == WORST ? 23 : 17);
+    EACH_KIND USE(RESULT, card_record_set, AT(result), typ, revision, AT(values), column == WORST ? 26 : 5, 50);
+    EACH_KIND USE(RESULT, card_record_value, AT(result), typ, revision, AT(values), column == WORST ? 26 : 5);
     values[0] = blocks;
     USE(ANSWER, card_encode_shell, AT(values), AT(buffer), sizeof buffer);
     values[0] = values[1];
@@ -99,8 +105,8 @@ static void on_values(int column, size_t s, size_t blocks)
     USE(NONE, card_decode_tail, AT(result), AT(bytes));
     USE(RESULT, card_encode_header, AT(result), AT(values));
     USE(NONE, card_decode_header, AT(result), AT(bytes));
-    USE(RESULT, card_encode_ticket, AT(result), AT(values));
-    USE(NONE, card_decode_ticket, AT(result), AT(bytes));
+    EACH_KIND USE(RESULT, card_encode_ticket, AT(result), typ, revision, AT(values));
+    EACH_KIND USE(RESULT, card_decode_ticket, AT(result), typ, revision, AT(bytes));
     USE(ANSWER, card_encode_table, s, AT(elements), s - 3, AT(buffer), table_size_of(s));
     USE(RESULT, card_decode_table, AT(result), s, AT(bytes), table_size_of(s));
     USE(RESULT, card_date_of, AT(result), column == WORST ? 16384 : column == LARGEST ? 16383 : 0);
@@ -122,20 +128,24 @@ int main(void)
         printf("a function that uses 5,000 bytes is seen to use %lu\n", n);
         return 1;
     }
-    smallest_card();
-    on_image(SMALLEST);
+    for (size_t kind = 0; kind < KINDS; kind++) {
+        smallest_card();
+        ticket(1, kind);
+        on_image(SMALLEST, kind);
+        large_card();
+        ticket(1, kind);
+        on_image(LARGEST, kind);
+    }
     on_values(SMALLEST, 4, 6);
-    large_card();
-    on_image(LARGEST);
     on_values(LARGEST, 255, 63);
     shared_card(127, 26);
-    on_image(WORST);
+    on_image(WORST, TYP_23);
     looped_card(127, 26);
-    on_image(WORST);
+    on_image(WORST, TYP_23);
     shared_card(44, 41);
-    on_image(WORST);
+    on_image(WORST, TYP_23);
     full_card();
-    on_image(WORST);
+    on_image(WORST, TYP_23);
     on_values(WORST, 255, 63);
     for (size_t k = 0; k < count; k++)
         printf("%s %lu %lu %lu\n", rows[k].name, rows[k].bytes[SMALLEST], rows[k].bytes[LARGEST], rows[k].bytes[WORST]);

@@ -1,4 +1,5 @@
-/* The line protocol of the second program, spoken by the C library: commands on standard input, answers on standard output. */
+/* The line protocol of the second program, spoken by the C library: commands on standard input, answers on standard output. What the protocol does
+   not show and the header says, as the zeros after a record's values, is added to the answer where it does not hold. */
 #include "../../include/card.h"
 #include <stdio.h>
 #include <stdlib.h>
@@ -20,6 +21,30 @@ static void hex(const uint8_t *v, size_t k)
     for (size_t i = 0; i < k; i++)
         printf("%02x", v[i]);
 }
+/* The kinds of ticket: how many values a record has, and how many bytes they are. A kind that is not among them has any up to the most. */
+static const struct { uint64_t typ, revision; size_t values, bytes; } kinds[] = {
+    { 23, 2, 22, 27 }, { 22, 1, 22, 24 }, { 22, 2, 22, 26 }, { 22, 3, 25, 27 },
+};
+enum { KINDS = sizeof kinds / sizeof *kinds, MOST_VALUES = 25, MOST_BYTES = 27 };
+
+static size_t kind_of(uint64_t typ, uint64_t revision)
+{
+    size_t k = 0;
+    while (k < KINDS && (kinds[k].typ != typ || kinds[k].revision != revision))
+        k++;
+    return k;
+}
+
+/* The values of a record of the kind; after them there must be zeros. */
+static void record(size_t kind, const uint64_t v[MOST_VALUES])
+{
+    size_t k = kind < KINDS ? kinds[kind].values : 0;
+    numbers(v, k);
+    for (; k < MOST_VALUES; k++)
+        if (v[k] != 0)
+            printf(" and %llu as value %zu", (unsigned long long)v[k], k + 1);
+}
+
 static void head(size_t number, size_t entry) { printf("%zu %zu", number, entry); }
 static int end(void) { putchar('\n'); return 1; }
 
@@ -100,6 +125,21 @@ static int listing(void)
 #define IS(w) (!strcmp(words[0], w))
 #define WITH(k) (count == (k) + 1 && all_numbers(1))
 
+/* Whether TYP and revision stand at `at`, then `others` more and the values of such a record, all of them numbers. What the library takes after the
+   values is filled with what must not matter. */
+static int with_record(size_t at, size_t others)
+{
+    size_t first = at + 2 + others, kind;
+    if (count < first || !all_numbers(1))
+        return 0;
+    kind = kind_of(n[at], n[at + 1]);
+    if (kind < KINDS ? count != first + kinds[kind].values : count > first + MOST_VALUES)
+        return 0;
+    for (size_t i = count; i < first + MOST_VALUES; i++)
+        n[i] = UINT64_MAX;
+    return 1;
+}
+
 static int reads(void)
 {
     if (IS("check") && WITH(0)) {
@@ -143,14 +183,22 @@ static int reads(void)
         memset(buffer, 0xA5, sizeof buffer);
         if (IS("rest")) {
             card_filled f = card_fill(image, image_length, n[1], buffer, lent);
-            hex(buffer + 29, f.number ? 0 : f.end - 29);
+            if (f.number)
+                putchar('-');
+            else if (f.from == f.end)
+                putchar('=');
+            else
+                hex(buffer + f.from, f.end - f.from);
             return end();
         }
         card_ticket r = card_read_ticket(image, image_length, n[1], buffer, lent);
         head(r.number, r.entry);
-        numbers(r.header, 3);
-        numbers(r.values, 22);
-        printf(" %llu %zu %zu", (unsigned long long)r.end, r.mark, r.sectors);
+        if (r.number == 0) {
+            numbers(&r.typ, 1);
+            numbers(r.header, 3);
+            record(kind_of(r.typ, r.header[2]), r.values);
+            printf(" %llu %zu %zu", (unsigned long long)r.end, r.mark, r.sectors);
+        }
         return end();
     }
     if (IS("buffer") && WITH(1) && n[1] <= sizeof buffer) {
@@ -167,8 +215,8 @@ static int steps(void)
     card_answer a;
     if (IS("field") && WITH(3))
         a = card_write_field(image, image_length, n[1], n[2], n[3]);
-    else if (IS("record") && WITH(23))
-        a = card_write_record(image, image_length, n[1], n + 2);
+    else if (IS("record") && with_record(2, 0))
+        a = card_write_record(image, image_length, n[1], n[2], n[3], n + 4);
     else if (IS("mark") && WITH(2))
         a = card_mark(image, image_length, n[1], n[2]);
     else if (IS("touched") && WITH(0)) {
@@ -186,17 +234,41 @@ static int steps(void)
     return end();
 }
 
+/* A record that must be of the kind it was. */
+static void kept_kind(uint64_t typ, uint64_t revision, card_record r)
+{
+    record(kind_of(typ, revision), r.values);
+    if (r.typ != typ || r.revision != revision)
+        printf(" and TYP %llu revision %llu", (unsigned long long)r.typ, (unsigned long long)r.revision);
+}
+
 static int records(void)
 {
-    long k = count == 2 || count == 3 ? bytes_of(words[count - 1]) : -1;
-    if (IS("set") && WITH(24)) {
-        card_changed r = card_record_set(n + 3, n[1], n[2]);
+    long k = count >= 2 && count <= 4 ? bytes_of(words[count - 1]) : -1;
+    if (IS("set") && with_record(1, 2)) {
+        card_changed r = card_record_set(n[1], n[2], n + 5, n[3], n[4]);
         head(r.number, r.entry);
-        numbers(r.values, 22);
-    } else if (IS("value") && WITH(23)) {
-        card_value r = card_record_value(n + 2, n[1]);
+        kept_kind(n[1], n[2], r.next);
+    } else if (IS("value") && with_record(1, 1)) {
+        card_value r = card_record_value(n[1], n[2], n + 4, n[3]);
         head(r.number, r.entry);
         numbers(&r.value, 1);
+    } else if (IS("encode-ticket") && with_record(1, 0)) {
+        card_ticket_bytes r = card_encode_ticket(n[1], n[2], n + 3);
+        head(r.number, r.entry);
+        putchar(' ');
+        hex(r.bytes, r.count);
+        for (size_t i = r.count; i < MOST_BYTES; i++)
+            if (r.bytes[i] != 0)
+                printf(" and %u as byte %zu", r.bytes[i], i + 1);
+    } else if (IS("decode-ticket") && count == 4 && k >= 0 && k <= MOST_BYTES && (count = 3, all_numbers(1))) {
+        size_t kind = kind_of(n[1], n[2]);
+        if (kind < KINDS && (size_t)k != kinds[kind].bytes)
+            return 0;
+        memset(scratch + k, 0xA5, (size_t)(MOST_BYTES - k));
+        card_decoded r = card_decode_ticket(n[1], n[2], scratch);
+        head(r.number, r.entry);
+        kept_kind(r.number == 0 ? n[1] : 0, r.number == 0 ? n[2] : 0, r.next);
     } else if (IS("date") && WITH(1)) {
         card_date r = card_date_of(n[1]);
         head(r.number, r.entry);
@@ -212,7 +284,6 @@ static int records(void)
     ENCODE("encode-head", 3, card_head_bytes, card_encode_head, 2)
     ENCODE("encode-tail", 4, card_tail_bytes, card_encode_tail, 6)
     ENCODE("encode-header", 3, card_head_bytes, card_encode_header, 2)
-    ENCODE("encode-ticket", 22, card_ticket_bytes, card_encode_ticket, 27)
     else if (IS("encode-shell") && WITH(17) && n[1] <= 4096) {
         memset(scratch, 0xA5, sizeof scratch);
         card_answer a = card_encode_shell(n + 2, scratch, n[1]);
@@ -232,7 +303,6 @@ static int records(void)
     DECODE("decode-head", 2, card_head_values, card_decode_head, 3)
     DECODE("decode-tail", 6, card_tail_values, card_decode_tail, 4)
     DECODE("decode-header", 2, card_head_values, card_decode_header, 3)
-    DECODE("decode-ticket", 27, card_record, card_decode_ticket, 22)
     DECODE("decode-shell", 20, card_shell_values, card_decode_shell, 16)
     else if (IS("decode-table") && count == 3 && k >= 0 && (count = 2, all_numbers(1))) {
         card_table r = card_decode_table(n[1], scratch, (size_t)k);

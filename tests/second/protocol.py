@@ -5,7 +5,8 @@ import re
 from model.check import open_card
 from model.crc import crc
 from model.dates import date_of, stamp_of
-from model.fields import (ENTRY, HEAD, HEADER, TAIL, decode, decode_ticket, encode, encode_ticket)
+from model.fields import (ENTRY, HEAD, HEADER, KINDS, TAIL, TICKET_FIRST_BIT, decode, decode_ticket, encode,
+                          encode_ticket, kind_of)
 from model.listing import listing
 from model.reads import (read_chain, read_directory, read_entry, read_rest, read_shell, read_table,
                          read_ticket)
@@ -20,6 +21,8 @@ IMAGE_MOST = 65535
 BUFFER_BYTES = 65536
 LENT_MOST = 4096
 ELEMENTS_MOST = 300
+VALUES_MOST = max(len(kind.fields) for kind in KINDS)
+TICKET_BYTES_MOST = max(kind.end_byte() for kind in KINDS) - TICKET_FIRST_BIT // 8
 FILL = 0xA5
 
 NUMBER = re.compile(r"[0-9]+\Z")
@@ -187,15 +190,18 @@ class Talk:
 
     def say_ticket(self, words):
         j, lent = self.lend(words)
-        text = answered(lambda: read_ticket(self.image, j, lent), zeros(28))
+        text = answered(lambda: read_ticket(self.image, j, lent), [])
         self.give_back(lent)
         return text
 
     def say_rest(self, words):
         j, lent = self.lend(words)
-        part = read_rest(self.image, j, lent)
+        try:
+            text = read_rest(self.image, j, lent).hex() or "="
+        except Refused:
+            text = "-"
         self.give_back(lent)
-        return to_hex(part)
+        return text
 
     def say_buffer(self, words):
         length = number(exactly(words, 1)[0], BUFFER_BYTES)
@@ -208,8 +214,8 @@ class Talk:
         return answered(lambda: nothing(write_field(self.image, j, field, value)), [])
 
     def say_record(self, words):
-        j, *record = numbers(exactly(words, 23))
-        return answered(lambda: nothing(write_record(self.image, j, record)), [])
+        (j,), typ, revision, record = self.record_of(words, 1, 0)
+        return answered(lambda: nothing(write_record(self.image, j, typ, revision, record)), [])
 
     def say_mark(self, words):
         j, mark = numbers(exactly(words, 2))
@@ -217,13 +223,26 @@ class Talk:
 
     # Values apart from an image.
 
+    def record_of(self, words, before, between):
+        """Numbers before TYP and revision and between them and the values, the kind's number of values, or any number of an unlisted kind."""
+        given = numbers(words)
+        if len(given) < before + 2 + between:
+            raise NotACommand
+        others = given[:before] + given[before + 2:before + 2 + between]
+        (typ, revision), record = given[before:before + 2], given[before + 2 + between:]
+        kind = listed(typ, revision)
+        if len(record) > VALUES_MOST if kind is None else len(record) != len(kind.fields):
+            raise NotACommand
+        return others, typ, revision, record
+
     def say_set(self, words):
-        field, value, *record = numbers(exactly(words, 24))
-        return answered(lambda: set_field(record, field, value), record)
+        (field, value), typ, revision, record = self.record_of(words, 0, 2)
+        kept = record if listed(typ, revision) else []
+        return answered(lambda: set_field(typ, revision, record, field, value), kept)
 
     def say_value(self, words):
-        field, *record = numbers(exactly(words, 23))
-        return answered(lambda: [field_value(record, field)], [0])
+        (field,), typ, revision, record = self.record_of(words, 0, 1)
+        return answered(lambda: [field_value(typ, revision, record, field)], [0])
 
     def say_date(self, words):
         stamp, = numbers(exactly(words, 1))
@@ -256,7 +275,8 @@ class Talk:
         return self.encoded(words, 3, 2, lambda values: encode(HEADER, values))
 
     def say_encode_ticket(self, words):
-        return self.encoded(words, 22, 27, encode_ticket)
+        _, typ, revision, record = self.record_of(words, 0, 0)
+        return answered(lambda: [to_hex(encode_ticket(kind_of(typ, revision), record))], ["-"])
 
     def filled(self, length, call):
         """An answer and the whole lent buffer after it."""
@@ -290,7 +310,12 @@ class Talk:
         return line(0, 0, decode(HEADER, from_hex(exactly(words, 1)[0], 2)))
 
     def say_decode_ticket(self, words):
-        return line(0, 0, decode_ticket(from_hex(exactly(words, 1)[0], 27)))
+        typ, revision, data = exactly(words, 3)
+        typ, revision, data = number(typ), number(revision), from_hex(data)
+        kind = listed(typ, revision)
+        if len(data) > TICKET_BYTES_MOST if kind is None else len(data) != kind.end_byte() - TICKET_FIRST_BIT // 8:
+            raise NotACommand
+        return answered(lambda: decode_ticket(kind_of(typ, revision), data), [])
 
     def say_decode_shell(self, words):
         return line(0, 0, decode_shell(from_hex(exactly(words, 1)[0], 20)))
@@ -306,6 +331,14 @@ def exactly(words, count):
     if len(words) != count:
         raise NotACommand
     return words
+
+
+def listed(typ, revision):
+    """The kind on the lists, or None."""
+    try:
+        return kind_of(typ, revision)
+    except Refused:
+        return None
 
 
 def zeros(count):

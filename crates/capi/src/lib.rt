@@ -4,6 +4,7 @@ use card::ChainRead;
 use card::Changed;
 use card::Checked;
 use card::Dated;
+use card::Decoded;
 use card::DirectoryRead;
 use card::Elements;
 use card::Encoded;
@@ -24,6 +25,8 @@ use card::Tail;
 use card::TailBytes;
 use card::TicketRead;
 use card::Value;
+use fields::MOST_BYTES;
+use fields::MOST_VALUES;
 ghost use mathlib.Core.Path.{_≡_};
 ghost use lib.ListN.{length};
 ghost use Rattle.rules.specs.Answer.{says};
@@ -31,10 +34,11 @@ ghost use Rattle.shell.specs.Encode as shells;
 ghost use Rattle.directory.specs.Records as records;
 ghost use Rattle.table.specs.Coded as tables;
 ghost use Rattle.ticket.specs.Ticket as tickets;
+ghost use Rattle.ticket.specs.Memory.{ownOf, own, heldChanged, heldEncoded, heldDecoded};
 ghost use Rattle.image.specs.Verdict.{verdict};
 ghost use Rattle.reads.specs.Card.{readShell, readDirectory, readTable};
 ghost use Rattle.reads.specs.Entry.{readEntry, readChain};
-ghost use Rattle.reads.specs.Ticket.{readTicket, bufferAfter, fillOf};
+ghost use Rattle.reads.specs.Ticket.{readTicket, heldTicket, bufferAfter, fillOf};
 ghost use Rattle.steps.specs.Step.{write, writeAll, setMark};
 ghost use Rattle.steps.specs.Steps.{answer, next};
 ghost use Rattle.steps.specs.Flags.{touchedAnswer, touchedFlags};
@@ -91,13 +95,13 @@ pub extern "C" fn card_read_chain(image: &[u8], entry: usize) -> ChainRead
 
 #[no_mangle]
 pub extern "C" fn card_read_ticket(image: &[u8], entry: usize, buffer: &mut [u8]) -> TicketRead
-    ensures { λ r. ⌜ r ≡ readTicket (now (image .entry)) entry (length (now (buffer .entry))) ⌝ }
+    ensures { λ r. ⌜ r ≡ heldTicket (readTicket (now (image .entry)) entry (length (now (buffer .entry)))) ⌝ }
     ensures { λ _. ⌜ now (buffer .exit) ≡ bufferAfter (now (image .entry)) entry (now (buffer .entry)) ⌝ }
 {
     card::read_ticket(image, entry, buffer)
 }
 
-// Copies likewise; the dataset's end in the buffer.
+// Copies likewise; in the buffer, the first byte after the fixed fields and the dataset's end.
 #[no_mangle]
 pub extern "C" fn card_fill(image: &[u8], entry: usize, buffer: &mut [u8]) -> Filled
     ensures { λ r. ⌜ r ≡ fillOf (now (image .entry)) entry (length (now (buffer .entry))) ⌝ }
@@ -120,11 +124,17 @@ pub extern "C" fn card_write_field(
 }
 
 #[no_mangle]
-pub extern "C" fn card_write_record(image: &mut [u8], entry: usize, values: &[u64; 22]) -> Answer
-    ensures { λ r. ⌜ r ≡ answer (now (image .entry)) (writeAll entry (now (values .entry))) ⌝ }
-    ensures { λ _. ⌜ now (image .exit) ≡ next (now (image .entry)) (writeAll entry (now (values .entry))) ⌝ }
+pub extern "C" fn card_write_record(
+    image: &mut [u8],
+    entry: usize,
+    typ: u64,
+    revision: u64,
+    values: &[u64; MOST_VALUES],
+) -> Answer
+    ensures { λ r. ⌜ r ≡ answer (now (image .entry)) (writeAll entry typ revision (ownOf typ revision (now (values .entry)))) ⌝ }
+    ensures { λ _. ⌜ now (image .exit) ≡ next (now (image .entry)) (writeAll entry typ revision (ownOf typ revision (now (values .entry)))) ⌝ }
 {
-    card::write_record(image, entry, values)
+    card::write_record(image, entry, typ, revision, values)
 }
 
 #[no_mangle]
@@ -144,19 +154,38 @@ pub extern "C" fn card_touched(before: &[u8], after: &[u8], flags: &mut [u8]) ->
     card::touched(before, after, flags)
 }
 
-// A field of a record of values, set and read.
+// A field of a record, set and read.
 #[no_mangle]
-pub extern "C" fn card_record_set(values: &[u64; 22], field: usize, value: u64) -> Changed
-    ensures { λ r. ⌜ r ≡ tickets.setOf (record { values = now (values .entry) }) field value ⌝ }
+pub extern "C" fn card_record_set(
+    typ: u64,
+    revision: u64,
+    values: &[u64; MOST_VALUES],
+    field: usize,
+    value: u64,
+) -> Changed
+    ensures { λ r. ⌜ r ≡ heldChanged (tickets.setOf (own (record { typ = typ; revision = revision; values = now (values .entry) })) field value) ⌝ }
 {
-    Record { values: *values }.set(field, value)
+    Record {
+        typ: typ,
+        revision: revision,
+        values: *values,
+    }.set(field, value)
 }
 
 #[no_mangle]
-pub extern "C" fn card_record_value(values: &[u64; 22], field: usize) -> Value
-    ensures { λ r. ⌜ r ≡ tickets.valueOf (record { values = now (values .entry) }) field ⌝ }
+pub extern "C" fn card_record_value(
+    typ: u64,
+    revision: u64,
+    values: &[u64; MOST_VALUES],
+    field: usize,
+) -> Value
+    ensures { λ r. ⌜ r ≡ tickets.valueOf (own (record { typ = typ; revision = revision; values = now (values .entry) })) field ⌝ }
 {
-    Record { values: *values }.value(field)
+    Record {
+        typ: typ,
+        revision: revision,
+        values: *values,
+    }.value(field)
 }
 
 // Records between values and bytes.
@@ -247,17 +276,25 @@ pub extern "C" fn card_decode_header(bytes: &[u8; 2]) -> Header
 }
 
 #[no_mangle]
-pub extern "C" fn card_encode_ticket(values: &[u64; 22]) -> Encoded
-    ensures { λ r. ⌜ r ≡ tickets.encodeOf (record { values = now (values .entry) }) ⌝ }
+pub extern "C" fn card_encode_ticket(
+    typ: u64,
+    revision: u64,
+    values: &[u64; MOST_VALUES],
+) -> Encoded
+    ensures { λ r. ⌜ r ≡ heldEncoded (tickets.encodeOf (own (record { typ = typ; revision = revision; values = now (values .entry) }))) ⌝ }
 {
-    card::encode_ticket(Record { values: *values })
+    card::encode_ticket(Record {
+        typ: typ,
+        revision: revision,
+        values: *values,
+    })
 }
 
 #[no_mangle]
-pub extern "C" fn card_decode_ticket(bytes: &[u8; 27]) -> Record
-    ensures { λ r. ⌜ r ≡ tickets.decodeOf (now (bytes .entry)) ⌝ }
+pub extern "C" fn card_decode_ticket(typ: u64, revision: u64, bytes: &[u8; MOST_BYTES]) -> Decoded
+    ensures { λ r. ⌜ r ≡ heldDecoded (tickets.decodeOf typ revision (now (bytes .entry))) ⌝ }
 {
-    card::decode_ticket(*bytes)
+    card::decode_ticket(typ, revision, *bytes)
 }
 
 // Dates.

@@ -50,6 +50,7 @@ pub use table::Elements;
 pub use table::decode_table;
 pub use table::encode_table;
 pub use ticket::Changed;
+pub use ticket::Decoded;
 pub use ticket::Encoded;
 pub use ticket::Header;
 pub use ticket::HeaderBytes;

@@ -1,7 +1,7 @@
 -- What each command leaves in the lent buffer. Assumes nothing.
-use mathlib.Core.Path.{_≡_}
+use mathlib.Core.Path.{_≡_, refl}
 use mathlib.Core.List.{List, _++_}
-use Prim.Native.Nat.{ℕ, _-_, _≤_, _<_}
+use Prim.Native.Nat.{ℕ, zero, suc, _-_, _≤_, _<_}
 use native.Mathlib.Omega.{arith}
 use lib.ListN.{length, replicate}
 use borrow.Author.Tests.{lt-ltb, le-ltb}
@@ -9,7 +9,11 @@ use borrow.Rule.Slice.PartMut.{midOf, postOf}
 use Rattle.reads.specs.Ticket.{bufferAfter}
 use Rattle.console.specs.declared.commands.Lend.{Lend}
 use Rattle.console.specs.declared.commands.Lend.the-variants.{Ticket, TicketIn, Rest, RestIn, Buffer}
-use Rattle.console.specs.Lends.{lentTo, Lent}
+use Rattle.console.specs.Lends.{lentTo, Lent, ofNone}
+
+pub refused-sign : (n : ℕ) → (n ≡ 0 → ⊥) → 45 ≡ ofNone n
+refused-sign zero h = absurd (h refl)
+refused-sign (suc n) h = refl
 
 pub too-large : (c b : List ℕ) (j n : ℕ) → length b < n → b ≡ lentTo c j n b
 too-large c b j n h = rw (lt-ltb (length b) n h)

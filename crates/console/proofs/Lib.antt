@@ -1,5 +1,6 @@
 pub mod Found
 pub mod Numbers
+pub mod Suited
 pub mod Lent
 pub mod Made
 pub mod Stepped

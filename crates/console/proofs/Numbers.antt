@@ -1,10 +1,10 @@
 -- Numbers of a line, stored one by one into a list of zeros. Assumes nothing.
 use mathlib.Core.Path.{_≡_, refl, sym, ap, _∙_}
 use mathlib.Core.List.{List, [], _∷_, _++_, append-nil}
-use Prim.Native.Nat.{ℕ, zero, suc, _+_, _-_, _<_}
+use Prim.Native.Nat.{ℕ, zero, suc, _+_, _-_, _≤_, _<_}
 use native.Mathlib.Omega.{arith}
 use native.Mathlib.Numerals.{add-one}
-use lib.ListN.{length, getD, set, replicate}
+use lib.ListN.{length, getD, set, take, replicate}
 use lib.Seq.{set-at, append-snoc}
 use Rattle.console.specs.Commands.{numbersFrom}
 
@@ -36,3 +36,10 @@ pub all : (k f i : ℕ) (ns v : List ℕ) → i ≡ k → v ≡ numbersFrom i f 
 all k f i ns v q e =
     let z : k - k ≡ 0 = omega arith in
     e ∙ (rw (q, z) (append-nil (numbersFrom k f ns)))
+
+-- the first k of n numbers
+pub first-of : (k n f : ℕ) (ns : List ℕ) → k ≤ n → take k (numbersFrom n f ns) ≡ numbersFrom k f ns
+unfolding numbersFrom
+first-of zero n f ns h = refl
+first-of (suc k) zero f ns h = absurd (omega arith)
+first-of (suc k) (suc n) f ns h = ap (λ (l : List ℕ). getD ns f 0 ∷ l) (first-of k n (f + 1) ns (omega arith))

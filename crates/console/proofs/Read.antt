@@ -2,10 +2,13 @@
 use mathlib.Core.Path.{_≡_, refl, sym, ap, _∙_}
 use mathlib.Core.Bool.{Bool}
 use mathlib.Core.List.{List, [], _∷_, _++_}
-use Prim.Native.Nat.{ℕ, zero, suc, _+_, _-_}
+use Prim.Native.Nat.{ℕ, zero, suc, _+_, _-_, _≤_}
+use native.Mathlib.Omega.{arith}
 use lib.ListN.{length, getD, take, drop, replicate}
 use lib.Seq.{getD-drop}
-use Rattle.text.specs.Words.{words, wordEnd, firstOf, numbersOf, countOf, fronted}
+use Rattle.text.specs.declared.Number.{Number}
+use Rattle.text.specs.Numbers.{numberOf}
+use Rattle.text.specs.Words.{words, wordEnd, afterBlank, firstOf, numbersOf, countOf, fronted}
 use Rattle.text.proofs.Split.{cut-at}
 use Rattle.console.specs.declared.commands.Command.{Command}
 use Rattle.console.specs.Commands.{commandOf, commandOfLine}
@@ -30,3 +33,10 @@ of-line all l d e n r q p u h =
     let ns = numbersOf 302 l in
     let w : take (e - 0) l ≡ firstOf (words l) = rw q (sym (ap firstOf (cut-at l 0))) in
     h ∙ (rw (w, p, at ns d 302 0 u, at ns d 302 1 u, at ns d 302 2 u))
+
+-- the first word of a line as a number, and where the next begins
+pub number-first : (l : List ℕ) (e p : ℕ) (n : Number) → e ≡ wordEnd l 0 → n ≡ numberOf (take (e - 0) l) → p ≡ afterBlank l e → p ≤ length l
+    → (n ≡ numberOf (take (wordEnd l 0) l)) × (p ≡ afterBlank l (wordEnd l 0)) × (p ≤ length l)
+number-first l e p n q m k h =
+    let z : e - 0 ≡ wordEnd l 0 = omega arith in
+    (m ∙ ap (λ (i : ℕ). numberOf (take i l)) z, k ∙ ap (afterBlank l) q, h)

@@ -1,5 +1,5 @@
 -- The buffer that a command lends, after it. Assumes nothing.
-use Prim.Native.Nat.{ℕ}
+use Prim.Native.Nat.{ℕ, zero, suc}
 use mathlib.Core.Path.{_≡_}
 use mathlib.Core.Bool.{cond}
 use mathlib.Core.List.{List, _++_}
@@ -8,6 +8,11 @@ use lib.Dec.{ltb}
 use Rattle.reads.specs.Ticket.{bufferAfter}
 use Rattle.console.specs.declared.commands.Lend.{Lend}
 use Rattle.console.specs.declared.commands.Lend.the-variants.{Ticket, TicketIn, Rest, RestIn, Buffer}
+
+-- what is shown for a part with no bytes, by the number of the read: `=` where it is taken, `-` where it is refused
+abbrev pub ofNone : ℕ → ℕ
+ofNone zero = 61
+ofNone (suc n) = 45
 
 -- what a buffer is filled with before a call
 abbrev pub filling : List ℕ → List ℕ

@@ -14,10 +14,9 @@ pub(crate) fn change(asked: Change, list: &[u64; MOST], image: &mut [u8])
 {
     match asked {
         Change::Field(j, field, value) => told(card::write_field(image, j, field, value)),
-        Change::Record(j) => {
-            let t = values::record(list, 1);
-            let all = t.values;
-            told(card::write_record(image, j, &all))
+        Change::Record(j, typ, revision) => {
+            let all = values::from(list, 3);
+            told(card::write_record(image, j, typ, revision, &all))
         }
         Change::Mark(j, mark) => told(card::mark(image, j, mark)),
     }

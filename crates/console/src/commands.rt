@@ -1,10 +1,13 @@
 // The commands: which one a line is, and with which numbers.
+use crate::values;
 use text::words;
 use text::words::MOST;
 ghost use mathlib.Core.Path.{_≡_};
+ghost use mathlib.Core.Bool.{cond};
 ghost use lib.ListN.{replicate};
 ghost use Rattle.text.specs.Words.{numbersOf, countOf, fronted};
-ghost use Rattle.console.specs.Commands.{commandAt, OfOne, OfNone, common as Commands·common, trial as Commands·trial, desk as Commands·desk, commandOf, commandOfLine};
+ghost use Rattle.console.specs.declared.commands.Command.the-variants.{Unknown};
+ghost use Rattle.console.specs.Commands.{commandAt, OfNone, common as Commands·common, trial as Commands·trial, desk as Commands·desk, commandOf, commandOfLine};
 
 // What a line asks for. The numbers that a command has beyond three stand in the list beside it.
 pub enum Command {
@@ -40,19 +43,19 @@ pub enum Lend {
     Buffer(usize),
 }
 
-// To change the image: a step on one product.
+// To change the image: a step on one product. A record has its TYP and revision.
 pub enum Change {
     Field(usize, usize, u64),
-    Record(usize),
+    Record(usize, u64, u64),
     Mark(usize, usize),
 }
 
-// To reckon with dates, or with a record of values.
+// To reckon with dates, or with a record of values: its TYP and revision, and the field.
 pub enum Reckon {
     Date(u64),
     Stamp(u64, u64, u64),
-    Set(usize, u64),
-    Value(usize),
+    Set(u64, u64, usize),
+    Value(u64, u64, usize),
 }
 
 // To encode values.
@@ -61,7 +64,7 @@ pub enum Encode {
     Head,
     Tail,
     Header,
-    Ticket,
+    Ticket(u64, u64),
     Shell(usize),
     Table(u64, usize),
 }
@@ -121,27 +124,37 @@ fn named(all: bool, word: &[u8], count: usize, a: u64, b: u64, n: u64) -> Comman
     let i = words::place(
         word,
         count,
-        b"check 0 bytes 0 list 0 shell 0 directory 0 table 0 entry 1 chain 1 ticket 1 ticket 2 rest 1 rest 2 buffer 1 field 3 record 23 mark 2 date 1 stamp 3 set 24 encode-entry 7 encode-head 3 encode-tail 4 encode-header 3 encode-ticket 22 encode-shell 17 encode-table *",
+        b"check 0 bytes 0 list 0 shell 0 directory 0 table 0 entry 1 chain 1 ticket 1 ticket 2 rest 1 rest 2 buffer 1 field 3 record * mark 2 date 1 stamp 3 set * encode-entry 7 encode-head 3 encode-tail 4 encode-header 3 encode-ticket * encode-shell 17 encode-table *",
     );
     if i < 26 {
-        return common(i, a, b, n);
+        return common(i, count, a, b, n);
     }
     if all {
         return trial(
             words::place(
                 word,
                 count,
-                b"image 1 keep 0 touched 0 at * value 23 crc * decode-entry * decode-head * decode-tail * decode-header * decode-ticket * decode-shell * decode-table *",
+                b"image 1 keep 0 touched 0 at * value * crc * decode-entry * decode-head * decode-tail * decode-header * decode-ticket * decode-shell * decode-table *",
             ),
+            count,
             a,
+            b,
+            n,
         );
     }
     desk(words::place(word, count, b"save * touched *"))
 }
 
+// A command with values, where they are as many as they are to be; else the line is not understood.
+fn suited(suits: bool, command: Command) -> Command
+    ensures { λ r. ⌜ r ≡ cond suits command Unknown ⌝ }
+{
+    if suits { command } else { Command::Unknown }
+}
+
 // The command at a place of the list of those that both programs have.
-fn common(i: usize, a: u64, b: u64, n: u64) -> Command
-    ensures { λ r. ⌜ r ≡ commandAt i Commands·common a b n ⌝ }
+fn common(i: usize, count: usize, a: u64, b: u64, n: u64) -> Command
+    ensures { λ r. ⌜ r ≡ commandAt i Commands·common count a b n ⌝ }
 {
     match i {
         0 => Command::Look(Look::Check),
@@ -158,16 +171,25 @@ fn common(i: usize, a: u64, b: u64, n: u64) -> Command
         11 => Command::Lend(Lend::RestIn(a as usize, b as usize)),
         12 => Command::Lend(Lend::Buffer(a as usize)),
         13 => Command::Change(Change::Field(a as usize, b as usize, n)),
-        14 => Command::Change(Change::Record(a as usize)),
+        14 => suited(
+            values::suit(b, n, 3, count),
+            Command::Change(Change::Record(a as usize, b, n)),
+        ),
         15 => Command::Change(Change::Mark(a as usize, b as usize)),
         16 => Command::Reckon(Reckon::Date(a)),
         17 => Command::Reckon(Reckon::Stamp(a, b, n)),
-        18 => Command::Reckon(Reckon::Set(a as usize, b)),
+        18 => suited(
+            values::suit(a, b, 4, count),
+            Command::Reckon(Reckon::Set(a, b, n as usize)),
+        ),
         19 => Command::Encode(Encode::Entry),
         20 => Command::Encode(Encode::Head),
         21 => Command::Encode(Encode::Tail),
         22 => Command::Encode(Encode::Header),
-        23 => Command::Encode(Encode::Ticket),
+        23 => suited(
+            values::suit(a, b, 2, count),
+            Command::Encode(Encode::Ticket(a, b)),
+        ),
         24 => Command::Encode(Encode::Shell(a as usize)),
         25 => Command::Encode(Encode::Table(a, b as usize)),
         _ => Command::Unknown,
@@ -175,15 +197,18 @@ fn common(i: usize, a: u64, b: u64, n: u64) -> Command
 }
 
 // The command at a place of the list of those that the test program has besides.
-fn trial(i: usize, a: u64) -> Command
-    ensures { λ r. ⌜ OfOne r i Commands·trial a ⌝ }
+fn trial(i: usize, count: usize, a: u64, b: u64, n: u64) -> Command
+    ensures { λ r. ⌜ r ≡ commandAt i Commands·trial count a b n ⌝ }
 {
     match i {
         0 => Command::Make(Make::Zeros(a as usize)),
         1 => Command::Make(Make::Keep),
         2 => Command::Make(Make::Touched),
         3 => Command::Make(Make::At),
-        4 => Command::Reckon(Reckon::Value(a as usize)),
+        4 => suited(
+            values::suit(a, b, 3, count),
+            Command::Reckon(Reckon::Value(a, b, n as usize)),
+        ),
         5 => Command::Decode(Decode::Crc),
         6 => Command::Decode(Decode::Entry),
         7 => Command::Decode(Decode::Head),

@@ -1,12 +1,16 @@
 // Commands on bytes that a line gives in hexadecimal: those of a test program.
 use crate::commands::Decode;
+use crate::values;
 use text::Number;
 use text::hex;
 use text::prints;
 use text::words;
 ghost use mathlib.Core.Path.{_≡_};
-ghost use lib.ListN.{length};
+ghost use Prim.Native.Nat.{_≤_};
+ghost use lib.ListN.{length, take};
 ghost use lib.Dec.{eqb};
+ghost use Rattle.text.specs.Numbers.{numberOf};
+ghost use Rattle.text.specs.Words.{wordEnd, afterBlank};
 ghost use Rattle.text.specs.Hex.{hexCount};
 ghost use Rattle.console.specs.Makes.{filledBy};
 
@@ -96,13 +100,40 @@ fn header(word: &[u8]) {
     }
 }
 
-fn ticket(word: &[u8]) {
-    let mut bytes = [0u8; 27];
-    if fills(word, &mut bytes) {
-        let r = card::decode_ticket(bytes);
-        let v = r.values;
-        prints::valued(0, 0, &v);
+// TYP, the revision, and the bytes of the record.
+fn ticket(words_left: &[u8]) {
+    let l = first_number(words_left);
+    let typ = l.number;
+    let Number::Is(t) = typ else {
+        prints::unknown();
+        return;
+    };
+    let start = l.start;
+    ticket_of(t, &words_left[start..]);
+}
+
+// The revision and the bytes of a record of that TYP.
+fn ticket_of(typ: u64, words_left: &[u8]) {
+    let l = first_number(words_left);
+    let revision = l.number;
+    let Number::Is(r) = revision else {
+        prints::unknown();
+        return;
+    };
+    let start = l.start;
+    ticket_given(typ, r, &words_left[start..]);
+}
+
+// The bytes of a record of that TYP and revision.
+fn ticket_given(typ: u64, revision: u64, word: &[u8]) {
+    if !values::are_bytes(typ, revision, hex::count(word)) {
+        prints::unknown();
+        return;
     }
+    let mut bytes = [0u8; fields::MOST_BYTES];
+    hex::read(word, &mut bytes);
+    let r = card::decode_ticket(typ, revision, bytes);
+    values::told(r.number, r.entry, r.next);
 }
 
 fn shell(word: &[u8]) {
@@ -114,14 +145,32 @@ fn shell(word: &[u8]) {
     }
 }
 
+// What a line begins with: its first word as a number, and where what follows the word and a blank begins.
+struct Lead {
+    number: Number,
+    start: usize,
+}
+
+fn first_number(line: &[u8]) -> Lead
+    ensures { λ r. ⌜ (r .number ≡ numberOf (take (wordEnd (now (line .entry)) 0) (now (line .entry)))) × (r .start ≡ afterBlank (now (line .entry)) (wordEnd (now (line .entry)) 0)) × (r .start ≤ length (now (line .entry))) ⌝ }
+{
+    let end = words::first(line);
+    let number = text::decimal(&line[0..end]);
+    Lead {
+        number: number,
+        start: words::after(line, end),
+    }
+}
+
 // S, and the bytes of the table.
 fn table(words_left: &[u8]) {
-    let end = words::first(words_left);
-    let Number::Is(s) = text::decimal(&words_left[0..end]) else {
+    let l = first_number(words_left);
+    let sectors = l.number;
+    let Number::Is(s) = sectors else {
         prints::unknown();
         return;
     };
-    let start = words::after(words_left, end);
+    let start = l.start;
     table_given(s, &words_left[start..]);
 }
 

@@ -5,6 +5,7 @@ use crate::values;
 use card::Answer;
 use card::Shell;
 use text::prints;
+use text::words;
 use text::words::MOST;
 ghost use mathlib.Core.Path.{_≡_};
 ghost use Rattle.console.specs.Commands.{numbersFrom};
@@ -22,7 +23,7 @@ pub(crate) fn encode(asked: Encode, count: usize, list: &[u64; MOST]) {
         Encode::Head => head(list),
         Encode::Tail => tail(list),
         Encode::Header => header(list),
-        Encode::Ticket => ticket(list),
+        Encode::Ticket(typ, revision) => ticket(typ, revision, list),
         Encode::Shell(n) => shell(n, shell_of(list)),
         Encode::Table(s, n) => table(s, n, list, count),
     }
@@ -60,10 +61,12 @@ fn header(list: &[u64; MOST]) {
     prints::encoded(r.number, r.entry, &b);
 }
 
-fn ticket(list: &[u64; MOST]) {
-    let r = card::encode_ticket(values::record(list, 0));
+// So many bytes as the record has; none where it is refused.
+fn ticket(typ: u64, revision: u64, list: &[u64; MOST]) {
+    let r = card::encode_ticket(values::record(typ, revision, list, 2));
     let b = r.bytes;
-    prints::encoded(r.number, r.entry, &b);
+    let n = words::least(r.count, b.len());
+    prints::encoded(r.number, r.entry, &b[0..n]);
 }
 
 // A buffer to lend.

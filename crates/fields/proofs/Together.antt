@@ -75,7 +75,7 @@ wide-mono ps i (suc k) (suc n) h =
     same q = rw q (omega arith)
 
 module _ (a : ℕ) (ps : List Span) (e : ℕ) (t : T (endToEnd a ps e)) where
-  place-of : (i n : ℕ) → i + n < length ps → nth ps (i + n) .0 ≡ nth ps i .0 + wide ps i n
+  pub place-of : (i n : ℕ) → i + n < length ps → nth ps (i + n) .0 ≡ nth ps i .0 + wide ps i n
   unfolding wide
   place-of i zero h = rw (add-zero i) (omega arith)
   place-of i (suc n) h =

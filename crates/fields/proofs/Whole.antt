@@ -45,11 +45,6 @@ fit-taken k vs z = go (holds (fit (listOf k) vs)) refl
     go true e = holds-means (fit (listOf k) vs) e
     go false e = absurd (let q : 26 ≡ 0 = (rw e at z) in omega arith)
 
--- the same, of a number that was found
-pub number-fits : (k : Layout) (vs : List ℕ) {n : ℕ} → n ≡ first (fitRules k vs) → n ≡ 0 → Means (fit (listOf k) vs)
-unfolding packNumber
-number-fits k vs e z = fit-taken k vs (sym e ∙ z)
-
 -- refused exactly where a value is too wide, and the number is 26
 pub packed-exactly : (k : Layout) (vs : List ℕ) → ((packNumber k vs ≡ 0) ↔ Means (fit (listOf k) vs)) × ((packNumber k vs ≡ 26) ↔ (Means (fit (listOf k) vs) → ⊥))
 packed-exactly k vs = (

@@ -5,7 +5,7 @@ use mathlib.Core.List.{List, [], _∷_}
 use lib.Dec.{eqb}
 use Rattle.fields.specs.declared.Span.{Span}
 use Rattle.fields.specs.declared.Layout.{Layout}
-use Rattle.fields.specs.declared.Layout.the-variants.{Image, Shell, Entry, Head, Tail, Header, Typ23}
+use Rattle.fields.specs.declared.Layout.the-variants.{Image, Shell, Entry, Head, Tail, Header, Typ23, Typ22r1, Typ22r2, Typ22r3, Unlisted}
 
 -- the bit where the list starts
 abbrev pub startOf : Layout → ℕ
@@ -16,6 +16,10 @@ startOf Head = 0
 startOf Tail = 0
 startOf Header = 0
 startOf Typ23 = 16
+startOf Typ22r1 = 16
+startOf Typ22r2 = 16
+startOf Typ22r3 = 16
+startOf Unlisted = 16
 
 -- each field starts where the one before ends, from bit a to bit e
 abbrev pub endToEnd : ℕ → List Span → ℕ → Bool

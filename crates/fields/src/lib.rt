@@ -1,4 +1,15 @@
 // Lists of fields that meet end to end: one list for each record of the card, and the routines that read and store by a list.
+mod plans;
+
+pub use plans::MOST_BYTES;
+pub use plans::MOST_VALUES;
+pub use plans::Plan;
+pub use plans::lay;
+pub use plans::typ22r1;
+pub use plans::typ22r2;
+pub use plans::typ22r3;
+pub use plans::typ23;
+pub use plans::values;
 ghost use mathlib.Core.Path.{_≡_};
 ghost use Prim.Native.Nat.{_+_, _*_, _<_, _≤_};
 ghost use lib.ListN.{length, replicate};
@@ -21,6 +32,10 @@ pub enum Layout {
     Tail,
     Header,
     Typ23,
+    Typ22r1,
+    Typ22r2,
+    Typ22r3,
+    Unlisted,
 }
 
 const IMAGE: [Span; 3] = [Span(0, 16), Span(16, 8), Span(24, 8)];
@@ -59,31 +74,6 @@ const HEAD: [Span; 3] = [Span(0, 6), Span(6, 6), Span(12, 4)];
 
 const TAIL: [Span; 4] = [Span(0, 8), Span(8, 4), Span(12, 4), Span(16, 32)];
 
-const TYP23: [Span; 22] = [
-    Span(16, 8),
-    Span(24, 16),
-    Span(40, 8),
-    Span(48, 2),
-    Span(50, 6),
-    Span(56, 2),
-    Span(58, 14),
-    Span(72, 5),
-    Span(77, 11),
-    Span(88, 5),
-    Span(93, 3),
-    Span(96, 8),
-    Span(104, 8),
-    Span(112, 8),
-    Span(120, 4),
-    Span(124, 4),
-    Span(128, 32),
-    Span(160, 4),
-    Span(164, 12),
-    Span(176, 32),
-    Span(208, 8),
-    Span(216, 16),
-];
-
 // How many fields the list has.
 pub fn count(k: Layout) -> usize
     ensures { λ r. ⌜ r ≡ length (listOf k) ⌝ }
@@ -96,6 +86,29 @@ pub fn count(k: Layout) -> usize
         Layout::Tail => 4,
         Layout::Header => 3,
         Layout::Typ23 => 22,
+        Layout::Typ22r1 => 22,
+        Layout::Typ22r2 => 22,
+        Layout::Typ22r3 => 25,
+        Layout::Unlisted => 0,
+    }
+}
+
+// The bit after the last place of the list.
+pub fn bit_after(k: Layout) -> usize
+    ensures { λ r. ⌜ r ≡ bitAfter k ⌝ }
+{
+    match k {
+        Layout::Image => 32,
+        Layout::Shell => 160,
+        Layout::Entry => 40,
+        Layout::Head => 16,
+        Layout::Tail => 48,
+        Layout::Header => 16,
+        Layout::Typ23 => 232,
+        Layout::Typ22r1 => 208,
+        Layout::Typ22r2 => 224,
+        Layout::Typ22r3 => 232,
+        Layout::Unlisted => 16,
     }
 }
 
@@ -139,22 +152,6 @@ fn in_tail(i: usize) -> Span
     TAIL[i]
 }
 
-// The places of a ticket's fields: all of them at once, for a loop over them.
-pub fn typ23() -> [Span; 22]
-    ensures { λ r. ⌜ r ≡ lists.typ23 ⌝ }
-{
-    TYP23
-}
-
-// The place of the field i of a ticket.
-pub fn in_typ23(i: usize) -> Span
-    requires { ⌜ i < length lists.typ23 ⌝ }
-    ensures { λ r. ⌜ r ≡ nth lists.typ23 i ⌝ }
-{
-    let places = typ23();
-    places[i]
-}
-
 // The place of the field i, counted from 0.
 pub fn place(k: Layout, i: usize) -> Span
     requires { ⌜ i < length (listOf k) ⌝ }
@@ -167,7 +164,11 @@ pub fn place(k: Layout, i: usize) -> Span
         Layout::Head => in_head(i),
         Layout::Tail => in_tail(i),
         Layout::Header => in_head(i),
-        Layout::Typ23 => in_typ23(i),
+        Layout::Typ23 => plans::place(plans::typ23(), i),
+        Layout::Typ22r1 => plans::place(plans::typ22r1(), i),
+        Layout::Typ22r2 => plans::place(plans::typ22r2(), i),
+        Layout::Typ22r3 => plans::place(plans::typ22r3(), i),
+        Layout::Unlisted => Span(0, 0),
     }
 }
 

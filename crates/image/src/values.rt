@@ -2,11 +2,10 @@
 use crate::Shape;
 use crate::entry_at;
 use crate::sector_at;
-use fields::Layout;
 ghost use mathlib.Core.Path.{_≡_};
 ghost use Prim.Native.Nat.{_≤_, _<_};
-ghost use lib.ListN.{length, drop};
-ghost use Rattle.fields.specs.Lists.{listOf, bitAfter};
+ghost use lib.ListN.{drop};
+ghost use Rattle.fields.specs.declared.Layout.the-variants as layout;
 ghost use Rattle.fields.specs.Fields.{valueAt};
 ghost use Rattle.image.specs.Image.{entryAt, product};
 ghost use Rattle.image.specs.Facts.{Present};
@@ -16,19 +15,19 @@ ghost use Rattle.image.specs.Shape.{Shaped};
 pub fn of_entry(image: &[u8], g: Shape, j: usize, i: usize) -> u64
     requires { ⌜ Shaped (now image) g ⌝ }
     requires { ⌜ (1 ≤ j) × (j ≤ g .entries) × (i < 7) ⌝ }
-    ensures { λ r. ⌜ r ≡ valueAt Layout.Entry i (drop (entryAt (now (image .entry)) j) (now (image .entry))) ⌝ }
+    ensures { λ r. ⌜ r ≡ valueAt layout.Entry i (drop (entryAt (now (image .entry)) j) (now (image .entry))) ⌝ }
 {
     let at = entry_at(g, j);
-    fields::value(&image[at..], Layout::Entry, i)
+    fields::at(&image[at..], fields::in_entry(i))
 }
 
-// The field i of a record of product j that lies in its first thirty-two bytes, which are in the first sector.
-pub fn of_product(image: &[u8], g: Shape, j: usize, k: Layout, i: usize) -> u64
+// The field i of product j's header.
+pub fn of_header(image: &[u8], g: Shape, j: usize, i: usize) -> u64
     requires { ⌜ Shaped (now image) g ⌝ }
     requires { ⌜ Present (now image) j ⌝ }
-    requires { ⌜ (i < length (listOf k)) × (bitAfter k ≤ 256) ⌝ }
-    ensures { λ r. ⌜ r ≡ valueAt k i (product (now (image .entry)) j) ⌝ }
+    requires { ⌜ i < 3 ⌝ }
+    ensures { λ r. ⌜ r ≡ valueAt layout.Header i (product (now (image .entry)) j) ⌝ }
 {
     let at = sector_at(g, j);
-    fields::value(&image[at..], k, i)
+    fields::at(&image[at..], fields::in_head(i))
 }

@@ -50,18 +50,18 @@ module _ (c : List ℕ) (b : Bytes c) (s t : Step) (x : Taken c s) (y : Taken c 
 
   apart-where : {p q : Span} → Where c s p → Where c t q → Apart (p .0) (p .1) (q .0) (q .1)
   unfolding tableAt
-  apart-where body body = elim (decLt (owner s) (owner t)) [
-    | yes l ↦ inl (omega (arith, sector-before c (owner s) (owner t) l, x .obeyed .size-least))
-    | no l ↦ inr (omega (arith, sector-before c (owner t) (owner s) (omega arith), x .obeyed .size-least))
+  apart-where (body p w g h) (body q u k l) = elim (decLt (owner s) (owner t)) [
+    | yes z ↦ inl (omega (arith, sector-before c (owner s) (owner t) z))
+    | no z ↦ inr (omega (arith, sector-before c (owner t) (owner s) (omega arith)))
   ]
-  apart-where body link =
-      inl (omega (arith, before-directory c (in-bounds c b s x) (owner s) (own-sector c b s x), element-in c (tail c t) (tail-sector c b t y), x .obeyed .size-least))
-  apart-where link body =
-      inr (omega (arith, before-directory c (in-bounds c b t y) (owner t) (own-sector c b t y), element-in c (tail c s) (tail-sector c b s x), x .obeyed .size-least))
+  apart-where (body p w g h) link =
+      inl (omega (arith, before-directory c (in-bounds c b s x) (owner s) (own-sector c b s x), element-in c (tail c t) (tail-sector c b t y)))
+  apart-where link (body q u k l) =
+      inr (omega (arith, before-directory c (in-bounds c b t y) (owner t) (own-sector c b t y), element-in c (tail c s) (tail-sector c b s x)))
   apart-where link link = elements-apart c (tail c s) (tail c t) (tail-sector c b s x .low) (tail-sector c b t y .low) tails
 
   pub apart-regions : Apart (region c s .0) (region c s .1) (region c t .0) (region c t .1)
-  apart-regions = apart-where (where-is c s) (where-is c t)
+  apart-regions = apart-where (where-is c s x) (where-is c t y)
 
 inside-places : (c : List ℕ) (s : Step) → Taken c s → Inside (region c s .0) (region c s .1) (placesOf (seen c (owner s)) s)
 inside-places c s x = rw (x .places) (inside c s x)

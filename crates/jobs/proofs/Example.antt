@@ -15,6 +15,7 @@ use Rattle.chains.specs.Products as products
 use Rattle.crc.specs.Crc.{clock, clocks, register, crc}
 use Rattle.rules.specs.First.{all, first}
 use Rattle.rules.specs.Lowest.{lowest}
+use Rattle.ticket.specs.Kind.{formIn}
 use Rattle.image.specs.Image.{stated, version, copy, shellValues, dataset, B, S, e#, SCTL, shellPad, SECR, beforeSECR, sectorAt, directoryAt, entryAt, tableAt, element, tablePad, chain, sectors, mark, sector, joined, product}
 use Rattle.rules.specs.Answer.{says}
 use Rattle.rules.specs.declared.Answer.{Answer}
@@ -48,7 +49,7 @@ abbrev pub block : Job Step
 block = record { product = 1; steps = setMark 1 2 ∷ write 1 9 600 ∷ [] }
 
 abbrev pub topUp : Job Step
-topUp = record { product = 2; steps = writeAll 2 values ∷ [] }
+topUp = record { product = 2; steps = writeAll 2 23 2 values ∷ [] }
 
 abbrev pub fare : Job Step
 fare = record { product = 3; steps = write 3 9 2048 ∷ write 3 23 0 ∷ setMark 3 1 ∷ [] }
@@ -64,10 +65,10 @@ separate = record {
 
 -- two ways to mix them
 abbrev pub inTurn : List Step
-inTurn = setMark 1 2 ∷ writeAll 2 values ∷ write 3 9 2048 ∷ write 1 9 600 ∷ write 3 23 0 ∷ setMark 3 1 ∷ []
+inTurn = setMark 1 2 ∷ writeAll 2 23 2 values ∷ write 3 9 2048 ∷ write 1 9 600 ∷ write 3 23 0 ∷ setMark 3 1 ∷ []
 
 abbrev pub fareFirst : List Step
-fareFirst = write 3 9 2048 ∷ write 3 23 0 ∷ setMark 1 2 ∷ setMark 3 1 ∷ writeAll 2 values ∷ write 1 9 600 ∷ []
+fareFirst = write 3 9 2048 ∷ write 3 23 0 ∷ setMark 1 2 ∷ setMark 3 1 ∷ writeAll 2 23 2 values ∷ write 1 9 600 ∷ []
 
 in-turn : Mix (lists jobs) inTurn
 in-turn = turn here (turn (there here) (turn (there (there here)) (turn here (turn (there (there here)) (turn (there (there here)) (done {js = [] ∷ [] ∷ [] ∷ []} (refl, (refl, (refl, tt)))))))))
@@ -89,14 +90,14 @@ ends-alike =
 
 -- what is to be computed
 judge : List ℕ → Step → Answer
-unfolding answer seen productAt elementAt stepRules verdict rules first all stated version copy shellValues fields dataset B S e# SCTL shellPad SECR beforeSECR sectorAt directoryAt entryAt tableAt isProduct Ψ tableBytes element tablePad chain sectors mark sector joined product brokenAt sharesAt products.brokenAt products.sharesAt member products.meet products.some lowest field number bit digit leadingZeros walkOn link crc register clocks clock
+unfolding answer seen productAt elementAt stepRules formIn verdict rules first all stated version copy shellValues fields dataset B S e# SCTL shellPad SECR beforeSECR sectorAt directoryAt entryAt tableAt isProduct Ψ tableBytes element tablePad chain sectors mark sector joined product brokenAt sharesAt products.brokenAt products.sharesAt member products.meet products.some lowest field number bit digit leadingZeros walkOn link crc register clocks clock
 judge c s = answer c s
 
 act : List ℕ → Step → List ℕ
 unfolding judge next stores store bytes stored shifted
 act c s = next c s
 
-answers-first : (answer (image 0x36) (setMark 1 2) ≡ says 0 0) × (answer (image 0x36) (writeAll 2 values) ≡ says 0 0) × (answer (image 0x36) (write 3 9 2048) ≡ says 26 3)
+answers-first : (answer (image 0x36) (setMark 1 2) ≡ says 0 0) × (answer (image 0x36) (writeAll 2 23 2 values) ≡ says 0 0) × (answer (image 0x36) (write 3 9 2048) ≡ says 26 3)
     × (answer (image 0x36) (write 3 23 0) ≡ says 25 3) × (answer (image 0x36) (setMark 3 1) ≡ says 0 0)
 unfolding judge image
 answers-first = (refl, refl, refl, refl, refl)
@@ -119,7 +120,7 @@ refused-first = (
 -- whatever the mix, these are the answers of the three jobs' steps
 pub answered : (m : List Step) → Mix (lists jobs) m
     → (entriesOf owner 1 (log cardSteps (image 0x36) m) ≡ (setMark 1 2, says 0 0) ∷ (write 1 9 600, says 27 1) ∷ [])
-    × (entriesOf owner 2 (log cardSteps (image 0x36) m) ≡ (writeAll 2 values, says 0 0) ∷ [])
+    × (entriesOf owner 2 (log cardSteps (image 0x36) m) ≡ (writeAll 2 23 2 values, says 0 0) ∷ [])
     × (entriesOf owner 3 (log cardSteps (image 0x36) m) ≡ (write 3 9 2048, says 26 3) ∷ (write 3 23 0, says 25 3) ∷ (setMark 3 1, says 0 0) ∷ [])
 answered m h =
     let a = jobs-mixed jobs separate m h (image 0x36) image-bytes .alone in (

@@ -1,10 +1,10 @@
 -- Encoding the shell and the chain table that were read of an accepted image writes the image's own bytes: the padding of each is zero there,
--- and SECR is right. The other records are in reads (Encoded). Assumes nothing.
+-- and SECR is right. The other records are in reads (Encoded). And a ticket's bytes are as many as its fields have. Assumes nothing.
 use mathlib.Core.Path.{_≡_, sym, ap, _∙_}
 use mathlib.Core.List.{List, _++_}
 use Prim.Native.Nat.{ℕ, _+_, _-_, _*_, _≤_, _<_}
 use native.Mathlib.Omega.{arith}
-use lib.ListN.{length, getD, take, drop, replicate, length-drop}
+use lib.ListN.{length, getD, take, drop, replicate, length-drop, length-replicate}
 use lib.Seq.{length-take-le, take-take, take-at, ext-getD}
 use Rattle.bits.specs.Bits.{Bytes, bit, field}
 use Rattle.bits.proofs.Laws.{bit-part, field-part, field-cong, bytes-take, bytes-drop}
@@ -14,7 +14,7 @@ use Rattle.chains.specs.Psi.{Ψ}
 use Rattle.fields.specs.Lists as lists
 use Rattle.fields.specs.declared.Layout.the-variants as layout
 use Rattle.fields.proofs.Joined.{lists-joined}
-use Rattle.fields.proofs.Laws.{length-fields, fit-fields}
+use Rattle.fields.proofs.Laws.{length-fields, fit-fields, length-stores}
 use Rattle.fields.proofs.Parts.{part}
 use Rattle.fields.proofs.Same.{fields-front}
 use Rattle.shell.specs.Shell as shell
@@ -26,6 +26,10 @@ use Rattle.table.specs.Coded.{elementsIn}
 use Rattle.table.specs.Table.{elementPlaces}
 use Rattle.table.proofs.Places.{length-places, element-is, room}
 use Rattle.table.proofs.Round as table-round
+use Rattle.ticket.specs.Kind.{restOf}
+use Rattle.ticket.specs.Ticket.{layoutOf, encodeOf}
+use Rattle.ticket.specs.declared.Record.{Record}
+use Rattle.ticket.proofs.Round.{taken-bytes}
 use Rattle.image.specs.Image.{shellValues, dataset, S, SCTL, SECR, beforeSECR, tableAt, element}
 use Rattle.image.specs.Obeys.{Obeys}
 use Rattle.image.specs.Facts.{Facts}
@@ -150,3 +154,7 @@ module _ (c : List ℕ) (bytes : Bytes c) (o : Obeys c) where
       let n : length l ≡ length b = h ∙ sym table-length in
       let k : table.encodeNumber (S c) (elementsRead c) (length l) ≡ 0 = rw (elements-read, n) (table-round.decoded-taken (S c) b p table-decoded) in
       (k, table-round.encoded (S c) (elementsRead c) l k ∙ rw (elements-read, n) (table-round.table-again (S c) b p table-decoded .1 table-padding))
+
+-- ---- a ticket: the bytes of its fields, from byte 2 on
+pub ticket-count : (t : Record) → encodeOf t .number ≡ 0 → encodeOf t .count ≡ restOf (layoutOf t) - 2
+ticket-count t z = ap length (taken-bytes t z) ∙ simp (length-drop, length-stores, length-replicate)

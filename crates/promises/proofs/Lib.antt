@@ -1,3 +1,5 @@
+pub mod Meeting
+pub mod Memory
 pub mod ReadAgain
 pub mod Encoded
 pub mod Refused

@@ -5,6 +5,7 @@ use Prim.Native.Nat.{ℕ}
 use native.Mathlib.Omega.{arith}
 use lib.ListN.{length}
 use Rattle.bits.proofs.Laws.{field-lt, digit-field, field-store, store-field}
+use Rattle.promises.proofs.Meeting.{read-again, kinds-meet}
 use Rattle.crc.proofs.Examples.{example-1, example-2, example-3, check-value}
 use Rattle.dates.specs.declared.Stamped.{Stamped}
 use Rattle.dates.proofs.Stamps as stamps
@@ -16,9 +17,9 @@ use Rattle.shell.proofs.Round as shell
 use Rattle.directory.proofs.Round as directory
 use Rattle.table.proofs.Places.{drop-zeros}
 use Rattle.table.proofs.Round as table
-use Rattle.ticket.specs.declared.Record.{Record}
-use Rattle.ticket.specs.declared.Encoded.{Encoded}
+use Rattle.ticket.specs.Kind.{formIn}
 use Rattle.ticket.proofs.HeaderRound as header
+use Rattle.ticket.proofs.Listed.{kinds-are}
 use Rattle.ticket.proofs.Round as ticket
 use Rattle.ticket.proofs.Steps.{taken-next, taken-value}
 use Rattle.image.specs.Image.{sectors}
@@ -29,16 +30,17 @@ use Rattle.image.proofs.Stays.{chain-of, chain-only}
 use Rattle.image.proofs.First.{product-size}
 use Rattle.reads.proofs.Values as values
 use Rattle.reads.proofs.Encoded as encoded
-use Rattle.reads.proofs.Agree.{empty-refused}
+use Rattle.reads.proofs.Agree.{same-refusal, part-taken}
 use Rattle.steps.specs.Step.{setMark}
 use Rattle.steps.proofs.Acts.{zero-taken, next-is}
-use Rattle.steps.proofs.Frame.{frame, length-next, after-table}
+use Rattle.steps.proofs.Frame.{frame, record-outside, length-next, after-table}
 use Rattle.steps.proofs.Keeps.{all-stays, mark-own}
 use Rattle.steps.proofs.Written as written
 use Rattle.worked.specs.Cards.{smallCard, largest}
 use Rattle.worked.specs.Told.{used}
 use Rattle.worked.specs.Night.{latest}
 use Rattle.worked.proofs.Sizes.{smallest-obeys, largest-obeys}
+use Rattle.worked.proofs.Area.{rest-empty-card, each-kind}
 use Rattle.worked.proofs.Told.{used-steps}
 use Rattle.worked.proofs.Night.{latest-end}
 use Rattle.promises.specs.Demands.{Demand2}
@@ -46,6 +48,7 @@ use Rattle.promises.proofs.Encoded as whole
 use Rattle.promises.proofs.ReadAgain.{record-read-again, field-read-again}
 
 pub demand2 : Demand2
+unfolding formIn
 demand2 = record {
   accepted = λ c. let e = check-says c .0 in ((λ z. accepted-exactly c .0 (sym e ∙ z)), λ o. e ∙ accepted-exactly c .1 o);
   sizes = λ c o. size-limits c (obeys-facts c o);
@@ -60,14 +63,19 @@ demand2 = record {
       let r = values.chain-read c j z in
       (r .0, r .1, r .2 ∙ ap (λ (l : List ℕ). sectors c j ++ l) (drop-zeros (length (sectors c j)) 252));
   ticket-read = values.ticket-read;
+  kinds = kinds-are;
+  kind-lists = (refl, refl, refl, refl);
+  kind-fields = (refl, refl, refl, refl, refl, refl, refl, refl);
   ticket-end = let x = latest-end in (values.end-read, (latest, x .0, x .1));
   buffer-read = values.buffer-read;
   fill-read = values.fill-read;
-  rest-read = values.rest-read;
-  rest-empty = empty-refused;
+  rest-read = λ c j room z. let r = values.rest-read c j room z in (r .0, r .1, values.rest-length c j room z);
+  rest-agrees = λ c j room. let e = same-refusal c j room in (e .0, e .1, part-taken c j room);
+  rest-empty = rest-empty-card;
   shell-decoded = λ b. refl;
   directory-decoded = λ b. (refl, refl, refl);
-  ticket-decoded = λ b. (refl, refl);
+  header-decoded = λ b. refl;
+  record-decoded = ticket.decoded-is;
   table-decoded = table.decoded;
   date-read = stamps.taken;
   shell-same = λ c l b o. whole.shell-encoded c b o l;
@@ -83,12 +91,10 @@ demand2 = record {
   head-written = λ vs z. (rw z, directory.head-back vs (directory.head-exactly vs .0 .0 z));
   tail-written = λ vs z. (rw z, directory.tail-back vs (directory.tail-exactly vs .0 .0 z));
   header-written = λ vs z. (rw z, header.header-back vs (header.header-exactly vs .0 .0 z));
-  ticket-written = λ t z.
-      let f = ticket.taken-fits t z in
-      (ap (λ (x : Encoded). x .bytes) (ticket.taken t f), ticket.decode-encode t f);
+  ticket-written = λ t z. (whole.ticket-count t z, ticket.taken-bytes t z, ticket.decode-encode t z);
   table-written = λ s es l z. (table.encoded s es l z, table.table-back s es l z);
   stamp-written = stamp-dated;
-  value-set = λ t n v z. ap (λ (u : Record). u .values) (taken-next t n v z);
+  value-set = taken-next;
   value-read = taken-value;
   record-again = record-read-again;
   field-again = field-read-again;
@@ -97,10 +103,14 @@ demand2 = record {
   mark-again = λ c j m b z. mark-own c b (setMark j m) (zero-taken c (setMark j m) z);
   mark-already = λ c j m b o v l h e. (written.mark-accepted c j m (obeys-facts c o) v (l, h) e, written.mark-again c j m b e);
   frame = λ c s b. (length-next c s, frame c s b);
+  record-frame = record-outside;
   stays = all-stays;
   seals = λ c s b o i h k. after-table c s b i h;
   some-sizes = let x = smallest-obeys in let y = largest-obeys in ((smallCard 0 0, x .0, x .1, x .2), (largest, y .0, y .1, y .2));
   some-steps = let x = used-steps in (used, x .0, x .1, x .2, x .3, x .4, x .5, x .6);
+  some-kinds = each-kind;
   crc-published = (example-1, example-2, example-3, check-value);
+  list-once = read-again;
+  lists-meet = kinds-meet;
   field-once = λ l p w. (field-lt l p w, digit-field l p w, store-field l p w, field-store l p w);
 }

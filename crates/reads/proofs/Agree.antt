@@ -1,19 +1,17 @@
 -- The two calls that read a ticket agree, for both are refused by the same rules; and a blocked product is read like any other, for no rule of a
 -- read looks at the mark. Assumes nothing.
-use mathlib.Core.Path.{_≡_, refl, ap}
-use mathlib.Core.Logic.{_↔_}
+use mathlib.Core.Path.{_≡_, refl}
+use mathlib.Core.Logic.{_↔_, _≢_}
 use mathlib.Core.List.{List, []}
-use Prim.Native.Nat.{ℕ, zero, suc, _-_, _≤_}
+use Prim.Native.Nat.{ℕ, zero, suc}
 use native.Mathlib.Omega.{arith}
-use lib.ListN.{length, drop, length-drop}
-use lib.Seq.{length-take-le}
-use Rattle.image.specs.Image.{mark, product}
+use Rattle.image.specs.Image.{mark}
 use Rattle.image.specs.Product.{productAt}
 use Rattle.image.specs.Obeys.{Obeys, IsProduct, Gives, taken}
 use Rattle.rules.specs.Claim.{Kept}
-use Rattle.reads.specs.Values.{ticketRules, extent}
-use Rattle.reads.specs.Ticket.{ticketRefusal, readTicket, fillOf, restBy, rest}
-use Rattle.reads.proofs.Passed.{passed}
+use Rattle.reads.specs.Values.{ticketRules}
+use Rattle.reads.specs.Ticket.{readTicket, fillOf, rest}
+use Rattle.reads.proofs.Given.{rest-refused}
 use Rattle.reads.proofs.Exactly.{ticket-exactly}
 
 module _ (c : List ℕ) (j room : ℕ) where
@@ -26,21 +24,13 @@ module _ (c : List ℕ) (j room : ℕ) where
   unfolding fillOf
   fill-exactly n e = ticket-exactly c j room n e
 
-  -- the part is empty exactly when the first call is refused
-  pub empty-refused : (rest c j room ≡ []) ↔ (readTicket c j room .number ≡ 0 → ⊥)
-  unfolding rest readTicket productAt
-  empty-refused = (there, back (ticketRefusal c j room .number) refl)
+  -- a part that is not empty says that the first call is taken; an empty one says nothing, for a dataset may end where the fixed fields do
+  pub part-taken : rest c j room ≢ [] → readTicket c j room .number ≡ 0
+  part-taken h = go (readTicket c j room .number) refl
     where
-      there : restBy (ticketRefusal c j room .number) (product c j) (extent c j) ≡ [] → ticketRefusal c j room .number ≡ 0 → ⊥
-      there e z =
-          let k = passed c j room z .rules-kept in
-          let q = rw z at e in
-          let l : extent c j - 29 ≤ length (drop 29 (product c j)) = omega (arith, length-drop 29 (product c j), k .1 .1 .1 .1 .0) in
-          omega (arith, ap length q, length-take-le (extent c j - 29) (drop 29 (product c j)) l, k .1 .1 .1 .0)
-
-      back : (n : ℕ) → ticketRefusal c j room .number ≡ n → (ticketRefusal c j room .number ≡ 0 → ⊥) → restBy (ticketRefusal c j room .number) (product c j) (extent c j) ≡ []
-      back zero z h = absurd (h z)
-      back (suc n) z h = rw z
+      go : (n : ℕ) → readTicket c j room .number ≡ n → readTicket c j room .number ≡ 0
+      go zero z = z
+      go (suc n) z = absurd (h (rest-refused c j room (λ y. omega arith) .0))
 
   -- a blocked product is read
   pub blocked-read : Obeys c → IsProduct c j → mark c j ≡ 2 → Kept (ticketRules room (productAt c j))

@@ -4,12 +4,12 @@ use mathlib.Core.Path.{_≡_, sym, ap, _∙_}
 use mathlib.Core.List.{List, _∷_}
 use Prim.Native.Nat.{ℕ, _+_, _-_, _*_, _≤_, _<_}
 use native.Mathlib.Omega.{arith}
-use lib.ListN.{length, take, drop, length-drop}
+use lib.ListN.{length, getD, take, drop, length-drop}
 use lib.Seq.{length-take-le, take-at, drop-at}
 use Rattle.bits.specs.Bits.{Bytes, bit}
 use Rattle.bits.proofs.Laws.{bit-drop, bit-part, bytes-take, bytes-drop}
 use Rattle.fields.specs.declared.Layout.{Layout}
-use Rattle.fields.specs.declared.Layout.the-variants.{Entry, Head, Tail, Header, Typ23}
+use Rattle.fields.specs.declared.Layout.the-variants.{Entry, Head, Tail, Header}
 use Rattle.fields.specs.Lists as lists
 use Rattle.fields.specs.Lists.{listOf, bitAfter}
 use Rattle.fields.specs.Ends.{startOf}
@@ -19,9 +19,11 @@ use Rattle.fields.proofs.Laws.{length-fields}
 use Rattle.fields.proofs.Same.{fields-same, fields-front}
 use Rattle.directory.specs.Records.{entryBytes, headBytes, tailBytes}
 use Rattle.directory.proofs.Round.{entry-again, head-again, tail-again}
-use Rattle.ticket.specs.Ticket.{headerBytes, recordIn, encodeOf, encoded}
+use Rattle.ticket.specs.Kind.{restOf}
+use Rattle.ticket.specs.Ticket.{headerBytes, recordOf, recordIn, encodeOf}
 use Rattle.ticket.proofs.HeaderRound.{header-again}
-use Rattle.ticket.proofs.Round.{encode-decode}
+use Rattle.ticket.proofs.Round.{encode-read}
+use Rattle.ticket.proofs.Listed.{Facts, kind-facts}
 use Rattle.ticket.specs.declared.Record.{Record}
 use Rattle.image.specs.Image.{SCTL, directoryAt, entryAt, tableAt, sectors, product}
 use Rattle.image.specs.Obeys.{Obeys}
@@ -29,10 +31,12 @@ use Rattle.image.specs.Product.{productAt}
 use Rattle.image.proofs.Accepted.{facts-bounds}
 use Rattle.image.proofs.Exact.{accepted-exactly, obeys-facts}
 use Rattle.image.proofs.First.{bytes-joined}
+use Rattle.reads.specs.Values.{kindAt}
 use Rattle.reads.specs.Card.{readDirectory}
 use Rattle.reads.specs.Entry.{readEntry}
 use Rattle.reads.specs.Ticket.{readTicket}
-use Rattle.reads.proofs.Passed.{passed, entry-passed}
+use Rattle.reads.specs.declared.TicketRead.{TicketRead}
+use Rattle.reads.proofs.Passed.{placed, entry-passed}
 use Rattle.reads.proofs.Places.{entry-in, tail-in}
 
 -- the n bytes from byte a on
@@ -88,41 +92,64 @@ entry-encoded c j bytes z =
 
 -- ---- a ticket
 
--- the record of the values read
-abbrev pub record-of : List ℕ → Record
-record-of vs = record { values = vs }
+-- the record of what was read: the entry's TYP, the header's revision, and the values
+abbrev pub record-of : TicketRead → Record
+record-of r = recordOf (r .typ) (getD (r .header) 2 0) (r .values)
 
 bytes-product : (c : List ℕ) (j : ℕ) → Bytes c → Bytes (product c j)
 unfolding product
 bytes-product c j b = bytes-joined c b (sectors c j)
 
--- bits 16 to 231 of a ticket are those of its bytes 2 to 28
-ticket-fields : (l : List ℕ) → fields (0 ∷ 0 ∷ part l 2 27) lists.typ23 ≡ fields l lists.typ23
-ticket-fields l = fields-same 16 lists.typ23 232 (lists-joined Typ23) (0 ∷ 0 ∷ part l 2 27) l same
-  where
-    same : (i : ℕ) → 16 ≤ i → i < 232 → bit (0 ∷ 0 ∷ part l 2 27) i ≡ bit l i
-    same i a b =
-        let e : i ≡ 8 * 2 + (i - 16) = omega arith in
-        ap (bit (0 ∷ 0 ∷ part l 2 27)) e ∙ sym (bit-drop (0 ∷ 0 ∷ part l 2 27) 2 (i - 16)) ∙ bit-part l 2 27 (i - 16) (omega arith) ∙ sym (ap (bit l) e)
+-- the fields of a kind stand between byte 2 and the first byte after them
+module _ (k : Layout) (f : Facts k) (l : List ℕ) where
+  abbrev own-bytes : List ℕ
+  own-bytes = 0 ∷ 0 ∷ part l 2 (restOf k - 2)
+
+  ticket-fields : fields own-bytes (listOf k) ≡ fields l (listOf k)
+  ticket-fields = fields-same (startOf k) (listOf k) (bitAfter k) (lists-joined k) own-bytes l same
+    where
+      same : (i : ℕ) → startOf k ≤ i → i < bitAfter k → bit own-bytes i ≡ bit l i
+      same i a b =
+          let e : i ≡ 8 * 2 + (i - 16) = omega (arith, f .starts) in
+          ap (bit own-bytes) e
+          ∙ sym (bit-drop own-bytes 2 (i - 16))
+          ∙ bit-part l 2 (restOf k - 2) (i - 16) (omega (arith, f .starts, f .whole))
+          ∙ sym (ap (bit l) e)
 
 module _ (c : List ℕ) (j room : ℕ) (bytes : Bytes c) (z : readTicket c j room .number ≡ 0) where
-  long : 32 ≤ length (product c j)
-  unfolding productAt readTicket
-  long = let k = passed c j room z .rules-kept in omega (arith, k .1 .1 .1 .0, k .1 .1 .1 .1 .0)
+  -- the bytes of the ticket's fields
+  abbrev own : List ℕ
+  own = part (product c j) 2 (restOf (kindAt c j .layout) - 2)
+
+  within : (2 ≤ restOf (kindAt c j .layout)) × (restOf (kindAt c j .layout) ≤ length (product c j))
+  unfolding readTicket
+  within =
+      let p = placed c j room z in
+      let f = kind-facts (productAt c j .typ) (productAt c j .revision) in
+      (omega (arith, f .after, f .whole), omega (arith, p .before, p .inside))
 
   pub header-encoded : headerBytes (readTicket c j room .header) ≡ record { number = 0; entry = 0; bytes = part (product c j) 0 2 }
   unfolding readTicket
   header-encoded =
       rw z
       (ap headerBytes (sym (part-fields Header (product c j) 0 2 (omega arith)))
-      ∙ header-again (part (product c j) 0 2) (part-bytes (product c j) 0 2 (bytes-product c j bytes)) (part-length (product c j) 0 2 (omega (arith, long))))
+      ∙ header-again (part (product c j) 0 2) (part-bytes (product c j) 0 2 (bytes-product c j bytes)) (part-length (product c j) 0 2 (omega (arith, within))))
 
-  record-is : record-of (readTicket c j room .values) ≡ recordIn (0 ∷ 0 ∷ part (product c j) 2 27)
-  unfolding readTicket
-  record-is = rw z (ap record-of (sym (ticket-fields (product c j))))
+  record-is : record-of (readTicket c j room) ≡ recordIn (productAt c j .typ) (productAt c j .revision) (0 ∷ 0 ∷ own)
+  unfolding readTicket productAt fields
+  record-is =
+      rw z
+      (ap (recordOf (productAt c j .typ) (productAt c j .revision))
+      (sym (ticket-fields (kindAt c j .layout) (kind-facts (productAt c j .typ) (productAt c j .revision)) (product c j))))
 
-  pub ticket-encoded : encodeOf (record-of (readTicket c j room .values)) ≡ encoded 0 (part (product c j) 2 27)
+  own-length : length own ≡ restOf (kindAt c j .layout) - 2
+  own-length = part-length (product c j) 2 (restOf (kindAt c j .layout) - 2) (omega (arith, within))
+
+  pub ticket-encoded : encodeOf (record-of (readTicket c j room))
+      ≡ record { number = 0; entry = 0; count = restOf (kindAt c j .layout) - 2; bytes = part (product c j) 2 (restOf (kindAt c j .layout) - 2) }
   unfolding readTicket
   ticket-encoded =
       ap encodeOf record-is
-      ∙ encode-decode (part (product c j) 2 27) (part-bytes (product c j) 2 27 (bytes-product c j bytes)) (part-length (product c j) 2 27 (omega (arith, long)))
+      ∙ encode-read (productAt c j .typ) (productAt c j .revision) own (placed c j room z .is-listed)
+      (part-bytes (product c j) 2 (restOf (kindAt c j .layout) - 2) (bytes-product c j bytes)) own-length
+      ∙ ap (λ (n : ℕ). record { number = 0; entry = 0; count = n; bytes = own }) own-length

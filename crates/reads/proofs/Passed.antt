@@ -3,18 +3,22 @@
 use mathlib.Core.Path.{_≡_, refl}
 use mathlib.Core.Bool.{Bool, true, false}
 use mathlib.Core.List.{List, []}
-use Prim.Native.Nat.{ℕ, zero, suc}
+use Prim.Native.Nat.{ℕ, zero, suc, _≤_}
 use native.Mathlib.Omega.{arith}
-use Rattle.rules.specs.Claim.{Kept}
+use lib.ListN.{length}
+use Rattle.rules.specs.Claim.{Means, Kept}
 use Rattle.rules.specs.First.{first}
 use Rattle.rules.proofs.ClaimLaws.{Numbered}
+use Rattle.ticket.specs.Kind.{restOf, listed}
+use Rattle.ticket.proofs.Listed.{kind-facts}
+use Rattle.image.specs.Image.{product}
 use Rattle.image.specs.Verdict.{isProduct, verdict}
 use Rattle.image.specs.Product.{Product, productAt}
 use Rattle.image.specs.Seen.{seenBy, seen, named, judgedBy, asked}
 use Rattle.image.specs.Facts.{Present}
 use Rattle.image.proofs.Exact.{test-product, accepts}
 use Rattle.image.proofs.Stops.{kept}
-use Rattle.reads.specs.Values.{ticketRules}
+use Rattle.reads.specs.Values.{ticketRules, kindAt, extent}
 use Rattle.reads.specs.Entry.{entryRefusal}
 use Rattle.reads.specs.Ticket.{ticketRefusal}
 
@@ -24,7 +28,7 @@ pub record Passed (c : List ℕ) (j room : ℕ) : Type 0 where
   pub rules-kept : Kept (ticketRules room (productAt c j))
 
 pub rules-numbered : (room : ℕ) (p : Product) → Numbered (ticketRules room p)
-rules-numbered room p = (omega arith, (omega arith, (omega arith, (omega arith, (omega arith, tt)))))
+rules-numbered room p = (omega arith, (omega arith, (omega arith, (omega arith, tt))))
 
 pub named-zero : (n j : ℕ) → named n j .number ≡ 0 → n ≡ 0
 named-zero zero j q = refl
@@ -60,6 +64,19 @@ module _ (c : List ℕ) (j room : ℕ) where
           named-entry : (n : ℕ) → named n j .number ≡ 0 → named n j .entry ≡ 0
           named-entry zero q = refl
           named-entry (suc n) q = absurd (omega arith)
+
+-- what 22 and 23 leave: the kind is listed, its fixed fields stand in the dataset, and that in the product
+pub record Placed (c : List ℕ) (j : ℕ) : Type 0 where
+  pub is-listed : Means (listed (kindAt c j .layout))
+  pub before : restOf (kindAt c j .layout) ≤ extent c j
+  pub inside : extent c j ≤ length (product c j)
+
+pub placed : (c : List ℕ) (j room : ℕ) → ticketRefusal c j room .number ≡ 0 → Placed c j
+unfolding productAt
+placed c j room z =
+    let k = passed c j room z .rules-kept in
+    let f = kind-facts (productAt c j .typ) (productAt c j .revision) in
+    record { is-listed = k .1 .0; before = omega (arith, k .1 .1 .0, f .least-room); inside = k .1 .1 .1 .0 }
 
 -- a read of an entry or of its chain
 pub entry-passed : (c : List ℕ) (j : ℕ) → entryRefusal c j .number ≡ 0 → Present c j

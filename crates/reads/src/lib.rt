@@ -43,22 +43,24 @@ pub struct ChainRead {
     pub sectors: [u8; 252],
 }
 
-// What reading a ticket answers: its header, its twenty-two values, its end in minutes, its mark and the number of its sectors.
+// What reading a ticket answers: the TYP of its entry, its header, the values of its kind and zeros after them, its end in minutes, its mark and the number of its sectors.
 #[repr(C)]
 pub struct TicketRead {
     pub number: usize,
     pub entry: usize,
+    pub typ: u64,
     pub header: [u64; 3],
-    pub values: [u64; 22],
+    pub values: [u64; fields::MOST_VALUES],
     pub end: u64,
     pub mark: usize,
     pub sectors: usize,
 }
 
-// What filling a buffer answers: the dataset's end.
+// What filling a buffer answers: the first byte after the fixed fields, and the dataset's end.
 #[repr(C)]
 pub struct Filled {
     pub number: usize,
     pub entry: usize,
+    pub from: usize,
     pub end: usize,
 }

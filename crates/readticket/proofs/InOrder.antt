@@ -1,19 +1,21 @@
 -- The checks 20 to 23, each made once those before it have passed, give the number of the first rule that is not kept. Assumes nothing.
 use mathlib.Core.Path.{_≡_, refl, ap, _∙_}
-use mathlib.Core.Bool.{Bool, true, false, cond, _&&_}
+use mathlib.Core.Bool.{Bool, true, false, cond}
 use mathlib.Core.List.{List}
-use Prim.Native.Nat.{ℕ, zero, suc, _*_}
-use native.Mathlib.Omega.{arith}
+use Prim.Native.Nat.{ℕ, zero, suc}
 use lib.ListN.{length, drop}
-use lib.Dec.{eqb, leb}
+use lib.Dec.{leb}
 use Rattle.rules.specs.First.{ifKept, first}
 use Rattle.rules.proofs.ClaimLaws.{orElse}
 use Rattle.fields.specs.Fields.{valueAt}
 use Rattle.fields.specs.declared.Layout.the-variants.{Entry, Header}
-use Rattle.ticket.specs.Kind.{kind, typ, revision, leastOf}
-use Rattle.ticket.specs.Checks.{formIn, formNumber, extentIn, extentNumber}
+use Rattle.ticket.specs.Kind.{formIn, rowOf, rowBy, kindOf, kindRules}
+use Rattle.ticket.specs.Checks.{formNumber, extentIn, extentNumber}
+use Rattle.ticket.proofs.Rules.{kind-checks}
 use Rattle.chains.specs.Packed.{markSaid}
-use Rattle.ticket.specs.declared.Form.the-variants.{Ticket, Other}
+use Rattle.ticket.specs.declared.kinds.Kind.{Kind}
+use Rattle.ticket.specs.declared.kinds.Form.{Form}
+use Rattle.ticket.specs.declared.kinds.Form.the-variants.{Ticket, Other}
 use Rattle.ticket.specs.declared.Extent.the-variants.{End, Wrong}
 use Rattle.image.specs.Image.{S, entryAt, element, product}
 use Rattle.image.specs.Product.{Product, productAt}
@@ -21,7 +23,7 @@ use Rattle.image.specs.Seen.{named}
 use Rattle.image.specs.Found as image
 use Rattle.image.specs.declared.Found.the-variants.{Not}
 use Rattle.reads.specs.Ticket.{ticketRefusal}
-use Rattle.reads.specs.Values.{ticketRules, extent}
+use Rattle.reads.specs.Values.{ticketRules}
 use Rattle.readticket.specs.Checks.{roomIn, roomNumber, statedIn, soundIn, judgedWith, judgedIn}
 use Rattle.readticket.specs.declared.checks.Stated.{Stated}
 use Rattle.readticket.specs.declared.checks.Room.the-variants.{Fits, Short}
@@ -33,25 +35,16 @@ use Rattle.image.proofs.Founds.{Finds}
 -- the first rule that is not kept has the number of the first check that is not passed
 in-order : (room : ℕ) (p : Product)
     → first (ticketRules room p)
-    ≡ orElse (roomNumber (roomIn (p .size) room)) (orElse (formNumber (formIn (p .typ) (p .revision))) (extentNumber (extentIn (p .blocks) (p .size))))
+    ≡ orElse (roomNumber (roomIn (p .size) room))
+    (orElse (formNumber (formIn (p .typ) (p .revision))) (extentNumber (extentIn (kindOf (p .typ) (p .revision) .layout) (p .blocks) (p .size))))
 unfolding first
 in-order room p =
-    go (leb (p .size) room) (eqb (p .typ) typ) (eqb (p .revision) revision) (leb (leastOf kind) (4 * p .blocks)) (leb (4 * p .blocks) (p .size))
+    go (leb (p .size) room) (first (kindRules (p .typ) (p .revision) (p .blocks) (p .size)))
+    ∙ ap (orElse (roomNumber (roomIn (p .size) room))) (kind-checks (p .typ) (p .revision) (p .blocks) (p .size))
   where
-    go : (r t v l s : Bool)
-        → ifKept r (ifKept t (ifKept v (ifKept l (ifKept s 0 23) 23) 22) 22) 21
-        ≡ orElse (roomNumber (cond r Fits Short)) (orElse (formNumber (cond (t && v) Ticket Other)) (extentNumber (cond (l && s) (End (4 * p .blocks)) Wrong)))
-    go false t v l s = refl
-    go true false v l s = refl
-    go true true false l s = refl
-    go true true true false s = refl
-    go true true true true false = refl
-    go true true true true true = refl
-
--- what a check that is passed gives
-end-is : (b : Bool) (e x : ℕ) → cond b (End e) Wrong ≡ End x → x ≡ e
-end-is true e x q = cc
-end-is false e x q = absurd (let z : _≡_ {A = ℕ} 0 1 = cc in omega arith)
+    go : (b : Bool) (n : ℕ) → ifKept b n 21 ≡ orElse (roomNumber (cond b Fits Short)) n
+    go true n = refl
+    go false n = refl
 
 module _ (c : List ℕ) (j room : ℕ) where
   -- nothing is found: the image's own number, or 20
@@ -61,7 +54,7 @@ module _ (c : List ℕ) (j room : ℕ) where
       let s = found-not c j q (ticketRules room) in
       rw (s .number-is, s .entry-is) (go n (s .some))
     where
-      go : (n : ℕ) → (n ≡ 0 → ⊥) → Refused n e ≡ judgedWith n e (soundIn c j)
+      go : (n : ℕ) → (n ≡ 0 → ⊥) → Refused n e ≡ judgedWith n e (formIn (productAt c j .typ) (productAt c j .revision)) (soundIn c j)
       go zero h = absurd (h refl)
       go (suc n) h = refl
 
@@ -69,9 +62,13 @@ module _ (c : List ℕ) (j room : ℕ) where
   unfolding judgedIn
   refused-at q = rw q
 
+  -- what its entry and its header say of it
+  abbrev form : Form
+  form = formIn (valueAt Entry 2 (drop (entryAt c j) c)) (valueAt Header 2 (product c j))
+
   module _ {l n : ℕ} (k : Finds c j l n) where
     numbered : ticketRefusal c j room
-        ≡ named (orElse (roomNumber (roomIn (length (product c j)) room)) (orElse (formNumber (formIn (valueAt Entry 2 (drop (entryAt c j) c)) (valueAt Header 2 (product c j)))) (extentNumber (extentIn (valueAt Header 0 (product c j)) (length (product c j)))))) j
+        ≡ named (orElse (roomNumber (roomIn (length (product c j)) room)) (orElse (formNumber form) (extentNumber (extentIn (rowBy form .layout) (valueAt Header 0 (product c j)) (length (product c j)))))) j
     unfolding ticketRefusal productAt
     numbered =
         asked-there c j (ticketRules room) (k .accepted) (k .is-there)
@@ -81,19 +78,18 @@ module _ (c : List ℕ) (j room : ℕ) where
     at-room q = refused-at (rw q at numbered)
 
     module _ (fits : roomIn (length (product c j)) room ≡ Fits) where
-      pub at-form : formIn (valueAt Entry 2 (drop (entryAt c j) c)) (valueAt Header 2 (product c j)) ≡ Other → Refused 22 j ≡ judgedIn c j room
+      pub at-form : form ≡ Other → Refused 22 j ≡ judgedIn c j room
       at-form q = refused-at (rw (fits, q) at numbered)
 
-      module _ (form : formIn (valueAt Entry 2 (drop (entryAt c j) c)) (valueAt Header 2 (product c j)) ≡ Ticket) where
-        pub at-extent : extentIn (valueAt Header 0 (product c j)) (length (product c j)) ≡ Wrong → Refused 23 j ≡ judgedIn c j room
-        at-extent q = refused-at (rw (fits, form, q) at numbered)
+      module _ {t : Kind} (told : form ≡ Ticket t) where
+        pub at-extent : extentIn (rowOf t .layout) (valueAt Header 0 (product c j)) (length (product c j)) ≡ Wrong → Refused 23 j ≡ judgedIn c j room
+        at-extent q = refused-at (rw (fits, told, q) at numbered)
 
-        module _ {x : ℕ} (ends : extentIn (valueAt Header 0 (product c j)) (length (product c j)) ≡ End x) where
-          passed : Taken (soundIn c j) ≡ judgedIn c j room
-          unfolding judgedIn
-          passed = let e = rw (fits, form, ends) at numbered in rw e
+        module _ {x : ℕ} (ends : extentIn (rowOf t .layout) (valueAt Header 0 (product c j)) (length (product c j)) ≡ End x) where
+          passed : Taken (soundIn c j t) ≡ judgedIn c j room
+          unfolding judgedIn productAt
+          passed = let e = rw (fits, told, ends) at numbered in rw (e, told)
 
-          pub at-end : {s : Stated} {m : ℕ} → s ≡ statedIn c j → m ≡ markSaid (S c) l (element c l) → Taken (record { sectors = n; mark = m; blocks = s .blocks; map = s .map; revision = s .revision; extent = x; day = s .day }) ≡ judgedIn c j room
-          at-end {s} q r =
-              let e = end-is (leb (leastOf kind) (extent c j) && leb (extent c j) (length (product c j))) (extent c j) x ends in
-              rw (k .count-is, r ∙ k .mark-is, e, q) passed
+          pub at-end : {s : Stated} {m : ℕ} → s ≡ statedIn c j → m ≡ markSaid (S c) l (element c l)
+              → Taken (record { kind = t; sectors = n; mark = m; typ = s .typ; blocks = s .blocks; map = s .map; revision = s .revision; day = s .day }) ≡ judgedIn c j room
+          at-end {s} q r = rw (k .count-is, r ∙ k .mark-is, q) passed

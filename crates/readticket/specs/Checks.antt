@@ -2,7 +2,7 @@
 -- Assumes nothing.
 use Prim.Native.Nat.{ℕ, zero, suc}
 use mathlib.Core.Bool.{cond}
-use mathlib.Core.List.{List}
+use mathlib.Core.List.{List, [], _∷_}
 use lib.ListN.{length, drop}
 use lib.Dec.{leb}
 use Rattle.fields.specs.Fields.{valueAt}
@@ -11,7 +11,13 @@ use Rattle.image.specs.Image.{entryAt, sectors, mark, product}
 use Rattle.image.specs.declared.Found.{Found}
 use Rattle.image.specs.declared.Found.the-variants.{There, Not}
 use Rattle.reads.specs.Ticket.{ticketRefusal}
-use Rattle.reads.specs.Values.{extent}
+use Rattle.reads.specs.declared.TicketRead.{TicketRead}
+use Rattle.ticket.specs.Kind.{formIn, endMinutes}
+use Rattle.ticket.specs.declared.kinds.Kind.{Kind}
+use Rattle.ticket.specs.declared.kinds.Fields.{Fields}
+use Rattle.ticket.specs.declared.kinds.Form.{Form}
+use Rattle.ticket.specs.declared.kinds.Form.the-variants.{Ticket, Other}
+use Rattle.image.specs.Product.{productAt}
 use Rattle.readticket.specs.declared.checks.Room.{Room}
 use Rattle.readticket.specs.declared.checks.Room.the-variants.{Fits, Short}
 use Rattle.readticket.specs.declared.checks.Stated.{Stated}
@@ -49,21 +55,38 @@ statedIn c j = record {
   revision = valueAt Header 2 (product c j);
 }
 
--- what is known of a ticket once none of 1 to 23 holds
-abbrev pub soundIn : List ℕ → ℕ → Sound
-soundIn c j = record {
+-- what is known of a ticket of the kind k once none of 1 to 23 holds
+abbrev pub soundIn : List ℕ → ℕ → Kind → Sound
+soundIn c j k = record {
+  kind = k;
   sectors = length (sectors c j);
   mark = mark c j;
+  typ = valueAt Entry 2 (drop (entryAt c j) c);
   blocks = valueAt Header 0 (product c j);
   map = valueAt Header 1 (product c j);
   revision = valueAt Header 2 (product c j);
-  extent = extent c j;
   day = valueAt Entry 6 (drop (entryAt c j) c);
 }
 
-abbrev pub judgedWith : ℕ → ℕ → Sound → Judged
-judgedWith zero e f = Taken f
-judgedWith (suc n) e f = Refused (suc n) e
+abbrev pub judgedWith : ℕ → ℕ → Form → (Kind → Sound) → Judged
+judgedWith zero e (Ticket k) f = Taken (f k)
+judgedWith zero e Other f = Refused 0 e
+judgedWith (suc n) e g f = Refused (suc n) e
 
 unfoldable pub judgedIn : List ℕ → ℕ → ℕ → Judged
-judgedIn c j room = judgedWith (ticketRefusal c j room .number) (ticketRefusal c j room .entry) (soundIn c j)
+judgedIn c j room =
+    judgedWith (ticketRefusal c j room .number) (ticketRefusal c j room .entry) (formIn (productAt c j .typ) (productAt c j .revision)) (soundIn c j)
+
+-- what is read of it
+abbrev pub toldOf : Sound → Fields → TicketRead
+toldOf f r =
+    record {
+      number = 0;
+      entry = 0;
+      typ = f .typ;
+      header = f .blocks ∷ f .map ∷ f .revision ∷ [];
+      values = r .values;
+      end = endMinutes (f .day) (r .time);
+      mark = f .mark;
+      sectors = f .sectors;
+    }

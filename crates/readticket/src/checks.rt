@@ -1,5 +1,4 @@
 // The checks of a ticket read: 20, 21, 22, 23 in this order, after the image's own.
-use fields::Layout;
 use image::Found;
 use image::Shape;
 use image::values;
@@ -8,6 +7,7 @@ use rules::WRONG_EXTENT;
 use rules::WRONG_ROOM;
 use ticket::Extent;
 use ticket::Form;
+use ticket::Kind;
 ghost use mathlib.Core.Path.{_≡_};
 ghost use Rattle.image.specs.Shape.{Shaped};
 ghost use Rattle.image.specs.Facts.{Present};
@@ -65,20 +65,21 @@ fn stated_of(image: &[u8], g: Shape, entry: usize) -> Stated
     Stated {
         typ: values::of_entry(image, g, entry, 2),
         day: values::of_entry(image, g, entry, 6),
-        blocks: values::of_product(image, g, entry, Layout::Header, 0),
-        map: values::of_product(image, g, entry, Layout::Header, 1),
-        revision: values::of_product(image, g, entry, Layout::Header, 2),
+        blocks: values::of_header(image, g, entry, 0),
+        map: values::of_header(image, g, entry, 1),
+        revision: values::of_header(image, g, entry, 2),
     }
 }
 
-// A ticket that has passed the checks: the length and mark of its chain, its header, the dataset's end, and the entry's EXP as its day.
+// A ticket that has passed the checks: the entry's TYP, its header, the length of its chain, its kind, its mark, and the entry's EXP as its day.
 pub struct Sound {
-    pub sectors: usize,
-    pub mark: u8,
+    pub typ: u64,
     pub blocks: u64,
     pub map: u64,
     pub revision: u64,
-    pub extent: usize,
+    pub sectors: usize,
+    pub kind: Kind,
+    pub mark: u8,
     pub day: u64,
 }
 
@@ -102,19 +103,20 @@ pub fn judge(image: &[u8], entry: usize, room: usize) -> Judged
         return Judged::Refused(WRONG_ROOM, entry);
     };
     let said = stated_of(image, g, entry);
-    let Form::Ticket = ticket::check_form(said.typ, said.revision) else {
+    let Form::Ticket(kind) = ticket::check_form(said.typ, said.revision) else {
         return Judged::Refused(OTHER_KIND, entry);
     };
-    let Extent::End(extent) = ticket::check_extent(said.blocks as usize, size) else {
+    let Extent::End(_) = ticket::check_extent(kind, said.blocks as usize, size) else {
         return Judged::Refused(WRONG_EXTENT, entry);
     };
     Judged::Taken(Sound {
+        kind: kind,
         sectors: count,
         mark: mark,
+        typ: said.typ,
         blocks: said.blocks,
         map: said.map,
         revision: said.revision,
-        extent: extent,
         day: said.day,
     })
 }

@@ -4,13 +4,17 @@ mod checks;
 mod copy;
 
 use checks::Judged;
+use checks::Sound;
+use fields::MOST_VALUES;
 use reads::Filled;
 use reads::TicketRead;
+use ticket::Fields;
 ghost use mathlib.Core.Path.{_≡_};
-ghost use Prim.Native.Nat.{_+_};
-ghost use lib.ListN.{length};
-ghost use Rattle.reads.specs.Ticket.{readTicket, fillOf, bufferAfter, rest, restAt};
-ghost use Rattle.readticket.specs.Checks.{judgedIn};
+ghost use Prim.Native.Nat.{_+_, _^_, _<_};
+ghost use lib.ListN.{length, getD};
+ghost use Rattle.fields.specs.Padded.{most};
+ghost use Rattle.reads.specs.Ticket.{readTicket, heldTicket, fillOf, bufferAfter, rest, restAt};
+ghost use Rattle.readticket.specs.Checks.{judgedIn, toldOf};
 
 // Copies the product of a ticket that has passed the checks into the buffer.
 fn take(image: &[u8], entry: usize, buffer: &mut [u8]) -> Judged
@@ -31,33 +35,42 @@ fn take(image: &[u8], entry: usize, buffer: &mut [u8]) -> Judged
     judged
 }
 
+// What is read of it.
+fn told(sound: Sound, read: Fields) -> TicketRead
+    requires { ⌜ (sound .day < 2 ^ 32) × (read .time < 2 ^ 32) ⌝ }
+    ensures { λ r. ⌜ r ≡ toldOf sound read ⌝ }
+{
+    let values = read.values;
+    TicketRead {
+        number: 0,
+        entry: 0,
+        typ: sound.typ,
+        header: [sound.blocks, sound.map, sound.revision],
+        values: values,
+        end: ticket::end(sound.day, read.time),
+        mark: sound.mark as usize,
+        sectors: sound.sectors,
+    }
+}
+
 // Copies the product of a ticket into the buffer, and reads the ticket.
 pub fn read_ticket(image: &[u8], entry: usize, buffer: &mut [u8]) -> TicketRead
-    ensures { λ r. ⌜ r ≡ readTicket (now (image .entry)) entry (length (now (buffer .entry))) ⌝ }
+    ensures { λ r. ⌜ r ≡ heldTicket (readTicket (now (image .entry)) entry (length (now (buffer .entry)))) ⌝ }
     ensures { λ _. ⌜ now (buffer .exit) ≡ bufferAfter (now (image .entry)) entry (now (buffer .entry)) ⌝ }
 {
     match take(image, entry, buffer) {
         Judged::Taken(sound) => {
             let start = image::sector_at(verdict::shape_of(image), entry);
             let first = &image[start..];
-            let record = ticket::record_in(first);
-            let values = record.values;
-            TicketRead {
-                number: 0,
-                entry: 0,
-                header: [sound.blocks, sound.map, sound.revision],
-                values: values,
-                // values[8] is field 9, ExpiryTime
-                end: ticket::end(sound.day, values[8]),
-                mark: sound.mark as usize,
-                sectors: sound.sectors,
-            }
+            let kind = sound.kind;
+            told(sound, ticket::fields_of(first, kind))
         }
         Judged::Refused(n, e) => TicketRead {
             number: n,
             entry: e,
+            typ: 0,
             header: [0; 3],
-            values: [0; 22],
+            values: [0; MOST_VALUES],
             end: 0,
             mark: 0,
             sectors: 0,
@@ -65,20 +78,26 @@ pub fn read_ticket(image: &[u8], entry: usize, buffer: &mut [u8]) -> TicketRead
     }
 }
 
-// Copies likewise; the answer is where the dataset ends.
+// Copies likewise; the answer is where the bytes after the fixed fields begin, and where the dataset ends.
 pub fn fill(image: &[u8], entry: usize, buffer: &mut [u8]) -> Filled
     ensures { λ r. ⌜ r ≡ fillOf (now (image .entry)) entry (length (now (buffer .entry))) ⌝ }
     ensures { λ _. ⌜ now (buffer .exit) ≡ bufferAfter (now (image .entry)) entry (now (buffer .entry)) ⌝ }
 {
     match take(image, entry, buffer) {
-        Judged::Taken(sound) => Filled {
-            number: 0,
-            entry: 0,
-            end: sound.extent,
-        },
+        Judged::Taken(sound) => {
+            let kind = sound.kind;
+            let end = 4 * (sound.blocks as usize);
+            Filled {
+                number: 0,
+                entry: 0,
+                from: ticket::rest(kind),
+                end: end,
+            }
+        }
         Judged::Refused(number, entry) => Filled {
             number,
             entry,
+            from: 0,
             end: 0,
         },
     }
@@ -93,7 +112,7 @@ pub fn rest<'a>(image: &[u8], entry: usize, buffer: &'a mut [u8]) -> &'a mut [u8
     if d.number != 0 {
         return &mut buffer[0..0];
     }
-    let from = ticket::rest();
+    let from = d.from;
     let end = d.end;
     &mut buffer[from..end]
 }

@@ -2,13 +2,14 @@
 -- its own chain. Assumes nothing.
 use mathlib.Core.Path.{_≡_, refl}
 use mathlib.Core.Bool.{Bool, true, false}
-use mathlib.Core.List.{List, []}
+use mathlib.Core.List.{List, [], _∷_}
 use Prim.Native.Nat.{ℕ, zero, suc, _+_, _-_, _*_, _≤_}
 use native.Mathlib.Decide.{decLt}
 use native.Mathlib.Omega.{arith}
 use Rattle.bits.specs.Bits.{Bytes}
 use Rattle.bits.proofs.Laws.{field-store}
 use Rattle.fields.specs.declared.Span.{Span}
+use Rattle.fields.specs.declared.Layout.{Layout}
 use Rattle.fields.specs.Lists.{span, listOf, bitAfter, nth}
 use Rattle.fields.specs.Ends.{startOf}
 use Rattle.fields.specs.Fields.{stores, shifted}
@@ -21,8 +22,9 @@ use Rattle.chains.proofs.PsiLaws.{psi-is}
 use Rattle.rules.specs.Claim.{Kept}
 use Rattle.rules.specs.First.{first}
 use Rattle.rules.proofs.ClaimLaws.{Numbered, found, Found, none, one, kept-fails}
-use Rattle.ticket.specs.Kind.{kind}
-use Rattle.image.specs.Image.{S, sectorAt, element, sectors, mark}
+use Rattle.ticket.specs.Kind.{countOf}
+use Rattle.ticket.proofs.Listed as kinds
+use Rattle.image.specs.Image.{B, S, sectorAt, element, sectors, mark}
 use Rattle.image.specs.Verdict.{isProduct, verdict}
 use Rattle.image.specs.Bounds.{Bounds}
 use Rattle.image.specs.Obeys.{IsProduct}
@@ -33,7 +35,7 @@ use Rattle.image.proofs.Exact.{test-product, product-test, product-sector, acce
 use Rattle.image.proofs.Accepted.{facts-bounds}
 use Rattle.image.proofs.Same.{Spares, Same, same, spares-sector, spares-element, element-in}
 use Rattle.image.proofs.Stays.{chain-of}
-use Rattle.steps.specs.Step.{Step, write, writeAll, setMark, owner, stepRules, target, newValues}
+use Rattle.steps.specs.Step.{Step, write, writeAll, setMark, owner, layoutOf, stepRules, target, newValues}
 use Rattle.steps.specs.Steps.{answer, placesOf, valuesOf, next}
 
 -- ---- whether a step is taken
@@ -41,7 +43,7 @@ use Rattle.steps.specs.Steps.{answer, placesOf, valuesOf, next}
 pub numbered : (p : Product) (s : Step) → Numbered (stepRules p s)
 unfolding stepRules
 numbered p (write j n v) = omega arith
-numbered p (writeAll j vs) = omega arith
+numbered p (writeAll j t r vs) = omega arith
 numbered p (setMark j m) = omega arith
 
 -- a step that is taken: every rule holds, and it stores what it says where it says
@@ -110,9 +112,20 @@ next-is c s t = rw (t .places, t .stored)
 
 -- ---- the region that a step stores in
 
+-- the list of the kind of entry j's product
+abbrev pub layoutAt : List ℕ → ℕ → Layout
+layoutAt c j = layoutOf (productAt c j)
+
+pub facts-at : (c : List ℕ) (j : ℕ) → kinds.Facts (layoutAt c j)
+facts-at c j = kinds.kind-facts (productAt c j .typ) (productAt c j .revision)
+
+-- the bits of its fields
+abbrev pub fieldsAt : List ℕ → ℕ → Span
+fieldsAt c j = span (8 * sectorAt c j + startOf (layoutAt c j)) (bitAfter (layoutAt c j) - startOf (layoutAt c j))
+
 abbrev pub region : List ℕ → Step → Span
-region c (write j n v) = span (8 * sectorAt c j + startOf kind) (bitAfter kind - startOf kind)
-region c (writeAll j vs) = span (8 * sectorAt c j + startOf kind) (bitAfter kind - startOf kind)
+region c (write j n v) = fieldsAt c j
+region c (writeAll j t r vs) = fieldsAt c j
 region c (setMark j m) = span (elementAt c (lastOf (sectors c j))) (Ψ (S c))
 
 -- the last sector of a step's chain
@@ -122,24 +135,50 @@ tail c s = lastOf (sectors c (owner s))
 -- the mark that a taken step leaves
 abbrev pub newMark : List ℕ → Step → ℕ
 newMark c (write j n v) = mark c j
-newMark c (writeAll j vs) = mark c j
+newMark c (writeAll j t r vs) = mark c j
 newMark c (setMark j m) = m
 
-pub ticket-inside : Inside 16 216 (listOf kind)
-ticket-inside = joined-inside 16 (listOf kind) 232 (lists-joined kind) 16 216 (omega arith) (omega arith)
-
--- the place of field n
-pub place-inside : (n : ℕ) → (1 ≤ n) × (n ≤ 22) → (16 ≤ nth (listOf kind) (n - 1) .0) × (nth (listOf kind) (n - 1) .0 + nth (listOf kind) (n - 1) .1 ≤ 232)
-place-inside n h = within 16 (listOf kind) 232 (lists-joined kind) (n - 1) (omega arith)
-
-pub numbers : (c : List ℕ) (j n v : ℕ) → Taken c (write j n v) → (1 ≤ n) × (n ≤ 22)
+pub numbers : (c : List ℕ) (j n v : ℕ) → Taken c (write j n v) → (1 ≤ n) × (n ≤ countOf (layoutAt c j))
 unfolding stepRules
-numbers c j n v t = t .kept .1 .1 .1 .1 .1 .0
+numbers c j n v t = t .kept .1 .1 .1 .1 .0
+
+-- a record that is taken is of the product's TYP and revision
+pub record-kind : (c : List ℕ) (j t r : ℕ) (vs : List ℕ) → Taken c (writeAll j t r vs) → (t ≡ productAt c j .typ) × (r ≡ productAt c j .revision)
+unfolding stepRules
+record-kind c j t r vs x = (x .kept .1 .0, x .kept .1 .1 .0)
+
+-- the places of its product that a step writes
+abbrev pub written : Layout → Step → List Span
+written k (write j n v) = nth (listOf k) (n - 1) ∷ []
+written k (writeAll j t r vs) = listOf k
+written k (setMark j m) = []
+
+-- they lie where the whole list does
+written-inside : (c : List ℕ) (s : Step) → Taken c s → (a n : ℕ) → a ≤ startOf (layoutAt c (owner s)) → bitAfter (layoutAt c (owner s)) ≤ a + n
+    → Inside a n (written (layoutAt c (owner s)) s)
+written-inside c (write j n v) t a m h l =
+    let k = layoutAt c j in
+    let i = numbers c j n v t in
+    let w = within (startOf k) (listOf k) (bitAfter k) (lists-joined k) (n - 1) (omega arith) in
+    ((omega arith, omega arith), tt)
+written-inside c (writeAll j t r vs) x a m h l = let k = layoutAt c j in joined-inside (startOf k) (listOf k) (bitAfter k) (lists-joined k) a m h l
+written-inside c (setMark j m) t a n h l = tt
+
+-- so within the first sector
+pub first-inside : (c : List ℕ) (s : Step) → Taken c s → Inside 0 (8 * B c) (written (layoutAt c (owner s)) s)
+first-inside c s t = let f = facts-at c (owner s) in written-inside c s t 0 (8 * B c) (omega arith) (omega (arith, t .obeyed .size-least))
+
+-- and within the bits of the fields
+fields-inside : (c : List ℕ) (s : Step) → Taken c s → Inside (fieldsAt c (owner s) .0) (fieldsAt c (owner s) .1) (shifted (8 * sectorAt c (owner s)) (written (layoutAt c (owner s)) s))
+fields-inside c s t =
+    let k = layoutAt c (owner s) in
+    shifted-inside (8 * sectorAt c (owner s)) (startOf k) (bitAfter k - startOf k) (written k s)
+    (written-inside c s t (startOf k) (bitAfter k - startOf k) (omega arith) (omega arith))
 
 pub inside : (c : List ℕ) (s : Step) → Taken c s → Inside (region c s .0) (region c s .1) (target (productAt c (owner s)) s)
-unfolding productAt shifted
-inside c (write j n v) t = let h = place-inside n (numbers c j n v t) in ((omega (arith, h), omega (arith, h)), tt)
-inside c (writeAll j vs) t = shifted-inside (8 * sectorAt c j) 16 216 (listOf kind) ticket-inside
+unfolding productAt
+inside c (write j n v) t = fields-inside c (write j n v) t
+inside c (writeAll j t r vs) x = fields-inside c (writeAll j t r vs) x
 inside c (setMark j m) t = ((omega arith, omega arith), tt)
 
 ends-mark : (s l m : ℕ) → (1 ≤ m) × (m ≤ 2) → Ends s l (s - m) m
@@ -167,12 +206,14 @@ module _ (c : List ℕ) (b : Bytes c) where
   pub in-bounds : (s : Step) → Taken c s → Bounds c
   in-bounds s t = facts-bounds c (t .obeyed)
 
-  spares-write : (s : Step) (t : Taken c s) (l : ℕ) → Spares c l (8 * sectorAt c (owner s) + 16) 216
-  spares-write s t l = spares-sector c (in-bounds s t) l (owner s) 16 216 (own-sector s t) (omega arith) (omega (arith, t .obeyed .size-least))
+  spares-write : (s : Step) (t : Taken c s) (l : ℕ) → Spares c l (fieldsAt c (owner s) .0) (fieldsAt c (owner s) .1)
+  spares-write s t l =
+      let f = facts-at c (owner s) in
+      spares-sector c (in-bounds s t) l (owner s) _ _ (own-sector s t) (omega arith) (omega (arith, t .obeyed .size-least))
 
   spares : (s : Step) (t : Taken c s) → Spares c (tail c s) (region c s .0) (region c s .1)
   spares (write j n v) t = spares-write (write j n v) t _
-  spares (writeAll j vs) t = spares-write (writeAll j vs) t _
+  spares (writeAll j t r vs) x = spares-write (writeAll j t r vs) x _
   spares (setMark j m) t = spares-element c (in-bounds (setMark j m) t) (tail c (setMark j m)) (tail-sector (setMark j m) t)
 
   pub kept-same : (s : Step) (t : Taken c s) → Same c (next c s) (tail c s)
@@ -182,7 +223,7 @@ module _ (c : List ℕ) (b : Bytes c) where
   pub old-end : (s : Step) (t : Taken c s) → Ends (S c) (tail c s) (element c (tail c s)) (mark c (owner s))
   old-end s t = last-ends (element c) (S c) (chain-of c (t .obeyed) (t .present) .leads)
 
-  write-element : (s : Step) (t : Taken c s) → region c s ≡ span (8 * sectorAt c (owner s) + 16) 216 → element (next c s) (tail c s) ≡ element c (tail c s)
+  write-element : (s : Step) (t : Taken c s) → region c s ≡ fieldsAt c (owner s) → element (next c s) (tail c s) ≡ element c (tail c s)
   write-element s t e =
       let k = tail-sector s t in
       same (in-bounds s t) (rw e at (only s t)) (spares-write s t 0) .elements-same (tail c s) k (omega arith)
@@ -200,5 +241,5 @@ module _ (c : List ℕ) (b : Bytes c) where
 
   pub new-end : (s : Step) (t : Taken c s) → Ends (S c) (tail c s) (element (next c s) (tail c s)) (newMark c s)
   new-end (write j n v) t = rw (write-element (write j n v) t refl) (old-end (write j n v) t)
-  new-end (writeAll j vs) t = rw (write-element (writeAll j vs) t refl) (old-end (writeAll j vs) t)
+  new-end (writeAll j t r vs) x = rw (write-element (writeAll j t r vs) x refl) (old-end (writeAll j t r vs) x)
   new-end (setMark j m) t = rw (mark-element j m t) (ends-mark (S c) (tail c (setMark j m)) m (kept-mark c j m t))

@@ -5,7 +5,7 @@ use mathlib.Core.Path.{_≡_, refl, sym, ap, ap₂, _∙_}
 use mathlib.Core.Logic.{_↔_, _≢_, inl, inr}
 use mathlib.Core.Bool.{Bool, true, false}
 use mathlib.Core.List.{List, [], _∷_, _++_}
-use Prim.Native.Nat.{ℕ, _+_, _-_, _*_, _≤_}
+use Prim.Native.Nat.{ℕ, _+_, _*_, _≤_}
 use native.Mathlib.Nat.{add-zero}
 use native.Mathlib.Decide.{decLt}
 use native.Mathlib.Omega.{arith}
@@ -15,6 +15,7 @@ use Rattle.bits.proofs.Laws.{Apart, field-drop}
 use Rattle.fields.specs.declared.Span.{Span}
 use Rattle.fields.specs.declared.Layout.the-variants.{Entry}
 use Rattle.fields.specs.Lists.{span}
+use Rattle.fields.specs.Ends.{startOf}
 use Rattle.fields.specs.Fields.{valueAt}
 use Rattle.fields.proofs.Laws.{bytes-stores}
 use Rattle.fields.proofs.Only.{only-part}
@@ -34,7 +35,7 @@ use Rattle.image.proofs.First.{first-in, product-first, product-size}
 use Rattle.steps.specs.Step.{Step, write, writeAll, setMark, owner}
 use Rattle.steps.specs.Steps.{next}
 use Rattle.steps.specs.Touched.{forty}
-use Rattle.steps.proofs.Acts.{Taken, Act, idle, acts, act, refused-same, region, tail, newMark, only, tail-sector, in-bounds, kept-same, old-end, new-end}
+use Rattle.steps.proofs.Acts.{Taken, Act, idle, acts, act, refused-same, layoutAt, facts-at, fieldsAt, region, tail, newMark, only, tail-sector, in-bounds, kept-same, old-end, new-end}
 
 pub bytes-next : (c : List ℕ) (s : Step) → Bytes c → Bytes (next c s)
 unfolding next
@@ -42,13 +43,18 @@ bytes-next c s b = bytes-stores c _ _ b
 
 -- a region lies in the first sector of the chain, past the header, or is the element of its last
 pub data Where (c : List ℕ) (s : Step) : Span → Type 0 where
-  body : Where c s (span (8 * sectorAt c (owner s) + 16) 216)
+  body : (p w : ℕ) → 16 ≤ p → p + w ≤ 8 * B c → Where c s (span (8 * sectorAt c (owner s) + p) w)
   link : Where c s (span (elementAt c (tail c s)) (Ψ (S c)))
 
-pub where-is : (c : List ℕ) (s : Step) → Where c s (region c s)
-where-is c (write j n v) = body
-where-is c (writeAll j vs) = body
-where-is c (setMark j m) = link
+where-fields : (c : List ℕ) (s : Step) → Taken c s → Where c s (fieldsAt c (owner s))
+where-fields c s t =
+    let f = facts-at c (owner s) in
+    body (startOf (layoutAt c (owner s))) (fieldsAt c (owner s) .1) (omega arith) (omega (arith, t .obeyed .size-least))
+
+pub where-is : (c : List ℕ) (s : Step) → Taken c s → Where c s (region c s)
+where-is c (write j n v) t = where-fields c (write j n v) t
+where-is c (writeAll j t r vs) x = where-fields c (writeAll j t r vs) x
+where-is c (setMark j m) t = link
 
 -- an acceptable image has the verdict 0, 0
 pub verdict-ok : (c : List ℕ) → Facts c → (verdict c .number ≡ 0) × (verdict c .entry ≡ 0)
@@ -90,11 +96,11 @@ module _ (c : List ℕ) (b : Bytes c) (s : Step) (t : Taken c s) where
   pub sector-kept : (i : ℕ) → Sector (S c) i → owner s ≢ i → sector (next c s) i ≡ sector c i
   unfolding sector tableAt
   sector-kept i k other =
-      rw (kept-same c b s t .B-same, kept-same c b s t .sector-same i) (only-part (only c b s t) (sectorAt c i) (B c) (apart (where-is c s)))
+      rw (kept-same c b s t .B-same, kept-same c b s t .sector-same i) (only-part (only c b s t) (sectorAt c i) (B c) (apart (where-is c s t)))
     where
       apart : {p : Span} → Where c s p → Apart (p .0) (p .1) (8 * sectorAt c i) (8 * B c)
-      apart body = elim (decLt (owner s) i) [
-        | yes l ↦ inl (omega (arith, sector-before c (owner s) i l, t .obeyed .size-least))
+      apart (body p w g h) = elim (decLt (owner s) i) [
+        | yes l ↦ inl (omega (arith, sector-before c (owner s) i l))
         | no l ↦ inr (omega (arith, sector-before c i (owner s) (omega (arith, other))))
       ]
       apart link = inr (omega (arith, before-directory c (in-bounds c b s t) i k, element-in c (tail c s) (tail-sector c b s t) .0))

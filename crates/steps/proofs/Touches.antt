@@ -9,14 +9,13 @@ use native.Mathlib.Omega.{arith}
 use lib.ListN.{length, getD}
 use Rattle.bits.specs.Bits.{Bytes}
 use Rattle.fields.specs.Lists.{listOf, nth}
-use Rattle.ticket.specs.Kind.{kind}
 use Rattle.image.specs.Image.{e#, sectors, mark, product}
 use Rattle.image.specs.Obeys.{IsProduct}
 use Rattle.image.specs.Product.{productAt}
 use Rattle.steps.specs.Step.{Step, write, writeAll, setMark, owner}
 use Rattle.steps.specs.Steps.{answer, next}
 use Rattle.steps.specs.Touched.{forty, Touched, entry, chain, marked, byte}
-use Rattle.steps.proofs.Acts.{Taken, Act, idle, acts, act, next-is, refused-same, kept-same, numbers, place-inside, ticket-inside}
+use Rattle.steps.proofs.Acts.{Taken, Act, idle, acts, act, next-is, refused-same, kept-same, layoutAt, first-inside}
 use Rattle.steps.proofs.Keeps.{entry-kept, product-kept-there, sectors-kept, mark-kept, mark-own, product-kept, size-kept}
 use Rattle.steps.proofs.Written.{unwritten, mark-again}
 
@@ -86,11 +85,11 @@ module _ (c : List ℕ) (b : Bytes c) where
   taken-touches : (s : Step) → Taken c s → next c s ≢ c → Touched c (next c s) (owner s)
   unfolding productAt
   taken-touches (write j n v) t d =
-      let k = place-inside n (numbers c j n v t) in
-      bytes-touched (write j n v) t
-      (unwritten c b (write j n v) t (nth (listOf kind) (n - 1) ∷ []) (v ∷ []) ((omega (arith, k), omega (arith, k)), tt) (next-is c (write j n v) t)) d
-  taken-touches (writeAll j vs) t d =
-      bytes-touched (writeAll j vs) t (unwritten c b (writeAll j vs) t (listOf kind) vs ticket-inside (next-is c (writeAll j vs) t)) d
+      let s : Step = write j n v in
+      bytes-touched s t (unwritten c b s t (nth (listOf (layoutAt c j)) (n - 1) ∷ []) (v ∷ []) (first-inside c s t) (next-is c s t)) d
+  taken-touches (writeAll j t r vs) x d =
+      let s : Step = writeAll j t r vs in
+      bytes-touched s x (unwritten c b s x (listOf (layoutAt c j)) vs (first-inside c s x) (next-is c s x)) d
   taken-touches (setMark j m) t d = marked (t .present) (λ e. d (mark-again c j m b (sym e ∙ mark-own c b (setMark j m) t)))
 
 -- a step that changes the image touches the entry that it names

@@ -12,7 +12,8 @@ use Rattle.rules.specs.Claim.{Means}
 use Rattle.bits.specs.Bits.{Bytes}
 use Rattle.bits.proofs.Laws.{store-store, store-field, bytes-take, bytes-drop}
 use Rattle.fields.specs.declared.Span.{Span}
-use Rattle.fields.specs.Lists.{listOf, nth}
+use Rattle.fields.specs.Lists.{listOf, bitAfter, nth}
+use Rattle.fields.specs.Ends.{startOf}
 use Rattle.fields.specs.Fields.{fields, stores, shifted, fit}
 use Rattle.fields.proofs.Joined.{lists-joined}
 use Rattle.fields.proofs.Laws.{fields-stores, fields-store, length-stores}
@@ -20,7 +21,7 @@ use Rattle.fields.proofs.Only.{Inside}
 use Rattle.fields.proofs.Parts.{part, around, around-part, stores-part, part-stores, stores-left, stores-again}
 use Rattle.chains.specs.Chain.{Sector, Ends, fresh, used, blocked, In, Distinct}
 use Rattle.chains.proofs.Laws.{chain-sectors}
-use Rattle.ticket.specs.Kind.{kind, limit}
+use Rattle.ticket.specs.Kind.{limit}
 use Rattle.image.specs.Image.{B, S, sectorAt, element, sectors, mark, sector, joined, product}
 use Rattle.image.specs.Obeys.{IsProduct}
 use Rattle.image.specs.Facts.{Facts}
@@ -31,26 +32,22 @@ use Rattle.image.proofs.Stays.{chain-of}
 use Rattle.image.proofs.First.{sectors-head, length-sector, bytes-joined, product-size, first-sector}
 use Rattle.steps.specs.Step.{Step, write, writeAll, setMark, owner, stepRules, target, newValues}
 use Rattle.steps.specs.Steps.{answerOf, answer, placesOf, valuesOf, next}
-use Rattle.steps.proofs.Acts.{Taken, Act, idle, acts, act, next-is, refused-same, kept-taken, numbers, place-inside, ticket-inside, kept-mark, own-sector, in-bounds, kept-same, old-end, newMark}
+use Rattle.steps.proofs.Acts.{Taken, Act, idle, acts, act, next-is, refused-same, kept-taken, layoutAt, facts-at, first-inside, numbers, kept-mark, own-sector, in-bounds, kept-same, old-end, newMark}
 use Rattle.steps.proofs.Keeps.{stays, product-kept-there, sectors-kept, joined-kept, mark-own, mark-kept, seen-marked, bytes-next}
 
 -- ---- what is written fits
 
-pub record-fits : (c : List ℕ) (j : ℕ) (vs : List ℕ) → Taken c (writeAll j vs) → Means (fit (listOf kind) vs)
+pub record-fits : (c : List ℕ) (j t r : ℕ) (vs : List ℕ) → Taken c (writeAll j t r vs) → Means (fit (listOf (layoutAt c j)) vs)
 unfolding stepRules
-record-fits c j vs t = t .kept .1 .1 .1 .1 .1 .0
+record-fits c j t r vs x = x .kept .1 .1 .1 .1 .1 .1 .0
 
-value-fits : (c : List ℕ) (j n v : ℕ) → Taken c (write j n v) → v ≤ limit kind n
+value-fits : (c : List ℕ) (j n v : ℕ) → Taken c (write j n v) → v ≤ limit (layoutAt c j) n
 unfolding stepRules
-value-fits c j n v t = t .kept .1 .1 .1 .1 .1 .1 .0
+value-fits c j n v t = t .kept .1 .1 .1 .1 .1 .0
 
 -- ---- a write stores into the product
 
-in-first : {c : List ℕ} → Facts c → (ps : List Span) → Inside 16 216 ps → Inside 0 (8 * B c) ps
-in-first o [] h = tt
-in-first o (p ∷ ps) h = ((omega arith, omega (arith, h .0, o .size-least)), in-first o ps (h .1))
-
-module _ (c : List ℕ) (b : Bytes c) (s : Step) (t : Taken c s) (ps : List Span) (vs : List ℕ) (fits : Inside 16 216 ps)
+module _ (c : List ℕ) (b : Bytes c) (s : Step) (t : Taken c s) (ps : List Span) (vs : List ℕ) (fits : Inside 0 (8 * B c) ps)
     (is : next c s ≡ stores c (shifted (8 * sectorAt c (owner s)) ps) vs) where
   sector-in : sectorAt c (owner s) + B c ≤ length c
   sector-in = let g = in-bounds c b s t in omega (arith, before-directory c g (owner s) (own-sector c b s t))
@@ -59,7 +56,7 @@ module _ (c : List ℕ) (b : Bytes c) (s : Step) (t : Taken c s) (ps : List Span
   unfolding sector
   sector-written =
       rw (kept-same c b s t .B-same, kept-same c b s t .sector-same (owner s), is)
-      (part-stores c (sectorAt c (owner s)) (B c) ps vs b sector-in (in-first (t .obeyed) ps fits))
+      (part-stores c (sectorAt c (owner s)) (B c) ps vs b sector-in fits)
 
   joined-written : (rest : List ℕ) → Distinct (owner s ∷ rest) → ((x : ℕ) → In x (owner s ∷ rest) → Sector (S c) x)
       → joined (next c s) (owner s ∷ rest) ≡ stores (joined c (owner s ∷ rest)) ps vs
@@ -67,7 +64,7 @@ module _ (c : List ℕ) (b : Bytes c) (s : Step) (t : Taken c s) (ps : List Span
   joined-written rest d m =
       ap₂ (λ (x y : List ℕ). x ++ y) sector-written (joined-kept c b s t rest (λ i h. (m i (inr h), λ e. d .0 (rw e h))))
       ∙ stores-left (sector c (owner s)) (joined c rest) ps vs (bytes-joined c b rest)
-      (rw (length-sector c (t .obeyed) (owner s) (own-sector c b s t)) (in-first (t .obeyed) ps fits))
+      (rw (length-sector c (t .obeyed) (owner s) (own-sector c b s t)) fits)
 
   pub product-written : product (next c s) (owner s) ≡ stores (product c (owner s)) ps vs
   unfolding product
@@ -91,7 +88,7 @@ module _ (c : List ℕ) (b : Bytes c) (s : Step) (t : Taken c s) (ps : List Span
       ∙ ap₂ (λ (n : ℕ) (l : List ℕ). take n l) (kept-same c b s t .B-same) e
       ∙ first-sector c (t .obeyed) (t .present) in
       is
-      ∙ sym (stores-part c a (B c) ps vs b sector-in (in-first (t .obeyed) ps fits))
+      ∙ sym (stores-part c a (B c) ps vs b sector-in fits)
       ∙ ap (λ (z : List ℕ). around c a (B c) z) h
       ∙ around-part c a (B c)
 
@@ -102,38 +99,41 @@ module _ (c : List ℕ) (b : Bytes c) (s : Step) (t : Taken c s) (ps : List Span
   written-again h =
       let a = sectorAt c (owner s) in
       let n = B c in
-      let q : part (next c s) a n ≡ stores (part c a n) ps vs = rw is (part-stores c a n ps vs b sector-in (in-first (t .obeyed) ps fits)) in
+      let q : part (next c s) a n ≡ stores (part c a n) ps vs = rw is (part-stores c a n ps vs b sector-in fits) in
       let l : length (next c s) ≡ length c = rw is (length-stores c (shifted (8 * a) ps) vs) in
-      sym (stores-part (next c s) a n ps vs (bytes-next c s b) (omega (arith, sector-in)) (in-first (t .obeyed) ps fits))
+      sym (stores-part (next c s) a n ps vs (bytes-next c s b) (omega (arith, sector-in)) fits)
       ∙ ap (λ (z : List ℕ). around (next c s) a n z) (ap (λ (z : List ℕ). stores z ps vs) q ∙ h ∙ sym q)
       ∙ around-part (next c s) a n
 
 -- ---- read after write
 
 module _ (c : List ℕ) (b : Bytes c) where
-  product-long : (s : Step) → Taken c s → 232 ≤ 8 * length (product c (owner s))
+  product-long : (s : Step) → Taken c s → bitAfter (layoutAt c (owner s)) ≤ 8 * length (product c (owner s))
   product-long s t =
       let o = t .obeyed in
       let r = sectors-head (chain-of c o (t .present) .leads) in
       let n : 1 ≤ length (sectors c (owner s)) = rw (r .1) (omega arith) in
-      omega (arith, product-size c o (t .present), o .size-least, mul-le-mul-right {m = 1} (B c) n)
+      omega (arith, facts-at c (owner s) .ends, product-size c o (t .present), o .size-least, mul-le-mul-right {m = 1} (B c) n)
 
   -- after a taken record write the fields of the product are the values written
-  pub record-read : (j : ℕ) (vs : List ℕ) → Taken c (writeAll j vs) → fields (product (next c (writeAll j vs)) j) (listOf kind) ≡ vs
+  pub record-read : (j t r : ℕ) (vs : List ℕ) → Taken c (writeAll j t r vs) → fields (product (next c (writeAll j t r vs)) j) (listOf (layoutAt c j)) ≡ vs
   unfolding productAt
-  record-read j vs t =
-      rw (product-written c b (writeAll j vs) t (listOf kind) vs ticket-inside (next-is c (writeAll j vs) t))
-      (fields-stores 16 (listOf kind) 232 (lists-joined kind) (product c j) vs (product-long (writeAll j vs) t) (record-fits c j vs t))
+  record-read j t r vs x =
+      let s : Step = writeAll j t r vs in
+      let k = layoutAt c j in
+      rw (product-written c b s x (listOf k) vs (first-inside c s x) (next-is c s x))
+      (fields-stores (startOf k) (listOf k) (bitAfter k) (lists-joined k) (product c j) vs (product-long s x) (record-fits c j t r vs x))
 
   -- after a taken field write the field is the value, and every other field is as before
   pub field-read : (j n v : ℕ) → Taken c (write j n v)
-      → fields (product (next c (write j n v)) j) (listOf kind) ≡ set (fields (product c j) (listOf kind)) (n - 1) v
+      → fields (product (next c (write j n v)) j) (listOf (layoutAt c j)) ≡ set (fields (product c j) (listOf (layoutAt c j))) (n - 1) v
   unfolding productAt stores
   field-read j n v t =
+      let s : Step = write j n v in
+      let k = layoutAt c j in
       let h = numbers c j n v t in
-      let k = place-inside n h in
-      rw (product-written c b (write j n v) t (nth (listOf kind) (n - 1) ∷ []) (v ∷ []) ((omega (arith, k), omega (arith, k)), tt) (next-is c (write j n v) t))
-      (fields-store 16 (listOf kind) 232 (lists-joined kind) (product c j) v (n - 1) (omega (arith, h)) (product-long (write j n v) t) (value-fits c j n v t))
+      rw (product-written c b s t (nth (listOf k) (n - 1) ∷ []) (v ∷ []) (first-inside c s t) (next-is c s t))
+      (fields-store (startOf k) (listOf k) (bitAfter k) (lists-joined k) (product c j) v (n - 1) (omega (arith, h)) (product-long s t) (value-fits c j n v t))
 
 -- ---- twice is once
 
@@ -185,16 +185,17 @@ next-again c s t e =
 pub again : (c : List ℕ) (s : Step) → Bytes c → Taken c s → next (next c s) s ≡ next c s
 unfolding productAt stores
 again c (write j n v) b t =
-    let k = place-inside n (numbers c j n v t) in
-    let p = nth (listOf kind) (n - 1) in
-    next-again c (write j n v) t (seen-write c b (write j n v) t refl j)
-    ∙ written-again c b (write j n v) t (p ∷ []) (v ∷ []) ((omega (arith, k), omega (arith, k)), tt) (next-is c (write j n v) t)
-    (store-store (sector c j) (p .0) (p .1) v v)
-again c (writeAll j vs) b t =
-    next-again c (writeAll j vs) t (seen-write c b (writeAll j vs) t refl j)
-    ∙ written-again c b (writeAll j vs) t (listOf kind) vs ticket-inside (next-is c (writeAll j vs) t)
-    (stores-again 16 (listOf kind) 232 (lists-joined kind) (sector c j) vs (bytes-sector c b j)
-    (omega (arith, length-sector c (t .obeyed) j (own-sector c b (writeAll j vs) t), t .obeyed .size-least)) (record-fits c j vs t))
+    let s : Step = write j n v in
+    let p = nth (listOf (layoutAt c j)) (n - 1) in
+    next-again c s t (seen-write c b s t refl j)
+    ∙ written-again c b s t (p ∷ []) (v ∷ []) (first-inside c s t) (next-is c s t) (store-store (sector c j) (p .0) (p .1) v v)
+again c (writeAll j t r vs) b x =
+    let s : Step = writeAll j t r vs in
+    let k = layoutAt c j in
+    next-again c s x (seen-write c b s x refl j)
+    ∙ written-again c b s x (listOf k) vs (first-inside c s x) (next-is c s x)
+    (stores-again (startOf k) (listOf k) (bitAfter k) (lists-joined k) (sector c j) vs (bytes-sector c b j)
+    (omega (arith, facts-at c j .ends, length-sector c (x .obeyed) j (own-sector c b s x), x .obeyed .size-least)) (record-fits c j t r vs x))
 again c (setMark j m) b t = mark-again (next c (setMark j m)) j m (bytes-next c (setMark j m) b) (mark-own c b (setMark j m) t)
 
 -- and the second is taken too: it sees the same, but for its own mark
@@ -202,8 +203,8 @@ pub again-taken : (c : List ℕ) (s : Step) → Bytes c → Taken c s → answer
 unfolding answer
 again-taken c (write j n v) b t =
     ap (λ (z : Seen). answerOf z (write j n v) .number) (seen-write c b (write j n v) t refl j) ∙ t .answered-zero
-again-taken c (writeAll j vs) b t =
-    ap (λ (z : Seen). answerOf z (writeAll j vs) .number) (seen-write c b (writeAll j vs) t refl j) ∙ t .answered-zero
+again-taken c (writeAll j t r vs) b x =
+    ap (λ (z : Seen). answerOf z (writeAll j t r vs) .number) (seen-write c b (writeAll j t r vs) x refl j) ∙ x .answered-zero
 again-taken c (setMark j m) b t =
     let s : Step = setMark j m in
     mark-accepted (next c s) j m (stays c b s t) (product-kept-there c b s t (t .present)) (kept-mark c j m t) (mark-own c b s t)

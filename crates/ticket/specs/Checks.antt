@@ -1,25 +1,31 @@
--- An annex: the checks 22 and 23 of a product: what each answers, and document 01's number of each answer. Assumes nothing.
-use Prim.Native.Nat.{ℕ, _*_}
+-- An annex: the checks 22, 23, and 25 with 26: what each answers, and document 01's number of each answer. Assumes nothing.
+use Prim.Native.Nat.{ℕ, _-_, _*_}
 use mathlib.Core.Bool.{cond, _&&_}
-use lib.Dec.{eqb, leb}
-use Rattle.ticket.specs.Kind.{kind, typ, revision, leastOf}
-use Rattle.ticket.specs.declared.Form.{Form}
-use Rattle.ticket.specs.declared.Form.the-variants.{Ticket, Other}
+use lib.Dec.{leb}
+use Rattle.fields.specs.declared.Layout.{Layout}
+use Rattle.fields.specs.Lists.{listOf, nth}
+use Rattle.rules.specs.First.{holds}
+use Rattle.ticket.specs.Kind.{leastOf, limit, fieldRule}
+use Rattle.ticket.specs.declared.kinds.Form.{Form}
+use Rattle.ticket.specs.declared.kinds.Form.the-variants.{Ticket, Other}
 use Rattle.ticket.specs.declared.Extent.{Extent}
 use Rattle.ticket.specs.declared.Extent.the-variants.{End, Wrong}
+use Rattle.ticket.specs.declared.Slot.{Slot}
+use Rattle.ticket.specs.declared.Slot.the-variants.{At, Refused}
 
--- 22: TYP not 23, or revision not 2
-abbrev pub formIn : ℕ → ℕ → Form
-formIn t r = cond (eqb t typ && eqb r revision) Ticket Other
-
+-- 22: a TYP and revision not listed
 abbrev pub formNumber : Form → ℕ
-formNumber Ticket = 0
+formNumber (Ticket k) = 0
 formNumber Other = 22
 
--- 23: 4 × IPELength under 32 or beyond the product
-abbrev pub extentIn : ℕ → ℕ → Extent
-extentIn b size = cond (leb (leastOf kind) (4 * b) && leb (4 * b) size) (End (4 * b)) Wrong
+-- 23: 4 × IPELength under the kind's least, or beyond the product
+abbrev pub extentIn : Layout → ℕ → ℕ → Extent
+extentIn k b size = cond (leb (leastOf k) (4 * b) && leb (4 * b) size) (End (4 * b)) Wrong
 
 abbrev pub extentNumber : Extent → ℕ
 extentNumber (End x) = 0
 extentNumber Wrong = 23
+
+-- 25, then 26; else the place of field n
+abbrev pub slotIn : Layout → ℕ → ℕ → Slot
+slotIn k n v = cond (holds (fieldRule k n .claim)) (cond (leb v (limit k n)) (At (nth (listOf k) (n - 1))) (Refused 26)) (Refused 25)

@@ -1,3 +1,4 @@
 pub mod Kind
 pub mod Ticket
 pub mod Checks
+pub mod Memory

@@ -1,27 +1,41 @@
-// A ticket of TYP 23 revision 2: what its kind is, its record of twenty-two values, and both as bytes.
-use fields::Layout;
+// A ticket: its kind, its record, and both as bytes. What a kind has is looked up by its list (crate `fields`) and in `kinds`, and nowhere else.
+use fields::MOST_BYTES;
+use fields::MOST_VALUES;
+use fields::Span;
 ghost use mathlib.Core.Path.{_≡_};
-ghost use Prim.Native.Nat.{_*_, _^_, _≤_, _<_};
-ghost use lib.ListN.{length};
-ghost use Rattle.rules.specs.First.{holds, first};
-ghost use Rattle.fields.specs.Lists.{listOf};
-ghost use Rattle.fields.specs.Fields.{fit, fitRules};
-ghost use Rattle.ticket.specs.Kind.{kind, typ, revision, countOf, leastOf, restOf, limit, fieldRule, setRules, endMinutes};
-ghost use Rattle.ticket.specs.Checks.{formIn, extentIn};
+ghost use Prim.Native.Nat.{_^_, _≤_, _<_};
+ghost use lib.ListN.{take};
+ghost use Rattle.rules.specs.First.{holds};
+ghost use Rattle.fields.specs.Padded.{most, held};
+ghost use Rattle.ticket.specs.Kind.{rowOf, fieldRule, endMinutes};
+ghost use Rattle.ticket.specs.Checks.{extentIn, slotIn};
 ghost use Rattle.ticket.specs.Ticket.{setOf, valueOf};
+ghost use Rattle.ticket.specs.Memory.{own, heldChanged};
 
 mod bytes;
+mod kinds;
 
 pub use bytes::decode;
 pub use bytes::decode_header;
 pub use bytes::encode;
 pub use bytes::encode_header;
-pub use bytes::record_in;
-pub use bytes::store_record;
+pub use kinds::Fields;
+pub use kinds::Form;
+pub use kinds::Kind;
+pub use kinds::check_form;
+pub use kinds::count;
+pub use kinds::fields_of;
+pub use kinds::lay;
+use kinds::layout;
+use kinds::least;
+pub use kinds::rest;
 
+// A record names its kind and revision. After the values of that kind's list it has zeros in every answer, and whatever stands there is not looked at.
 #[repr(C)]
 pub struct Record {
-    pub values: [u64; 22],
+    pub typ: u64,
+    pub revision: u64,
+    pub values: [u64; MOST_VALUES],
 }
 
 // What a step on a record answers: the refusal or 0, and the record after it.
@@ -40,12 +54,21 @@ pub struct Value {
     pub value: u64,
 }
 
-// What encoding a record answers: bits 16 to 231 of the ticket, or zeros.
+// What encoding a record answers: so many bytes of the ticket, from byte 2 to the end of its fields, and zeros after them.
 #[repr(C)]
 pub struct Encoded {
     pub number: usize,
     pub entry: usize,
-    pub bytes: [u8; 27],
+    pub count: usize,
+    pub bytes: [u8; MOST_BYTES],
+}
+
+// What decoding a record answers.
+#[repr(C)]
+pub struct Decoded {
+    pub number: usize,
+    pub entry: usize,
+    pub next: Record,
 }
 
 // IPELength, IPEBitMap, IPEFormatRevision.
@@ -62,58 +85,6 @@ pub struct HeaderBytes {
     pub bytes: [u8; 2],
 }
 
-// The TYP that a ticket's entry says.
-pub fn typ() -> u64
-    ensures { λ r. ⌜ r ≡ typ ⌝ }
-{
-    23
-}
-
-// The format revision that its header says.
-pub fn revision() -> u64
-    ensures { λ r. ⌜ r ≡ revision ⌝ }
-{
-    2
-}
-
-// How many fields a ticket has.
-pub fn count() -> usize
-    ensures { λ r. ⌜ r ≡ countOf kind ⌝ }
-{
-    fields::count(Layout::Typ23)
-}
-
-// The least 4 × IPELength.
-pub fn least() -> usize
-    ensures { λ r. ⌜ r ≡ leastOf kind ⌝ }
-{
-    32
-}
-
-// The first byte after the fields.
-pub fn rest() -> usize
-    ensures { λ r. ⌜ r ≡ restOf kind ⌝ }
-{
-    29
-}
-
-// 22: whether a product is a ticket of the kind.
-pub enum Form {
-    Ticket,
-    Other,
-}
-
-// Of a product whose entry says the TYP t and whose header says the format revision f.
-pub fn check_form(t: u64, f: u64) -> Form
-    ensures { λ r. ⌜ r ≡ formIn t f ⌝ }
-{
-    if (t == typ()) & (f == revision()) {
-        Form::Ticket
-    } else {
-        Form::Other
-    }
-}
-
 // 23: where a dataset ends.
 pub enum Extent {
     End(usize),
@@ -121,88 +92,89 @@ pub enum Extent {
 }
 
 // Of a product of `size` bytes whose header says `blocks`.
-pub fn check_extent(blocks: usize, size: usize) -> Extent
+pub fn check_extent(k: Kind, blocks: usize, size: usize) -> Extent
     requires { ⌜ blocks < 65536 ⌝ }
-    ensures { λ r. ⌜ r ≡ extentIn blocks size ⌝ }
+    ensures { λ r. ⌜ r ≡ extentIn (rowOf k .layout) blocks size ⌝ }
 {
     let end = 4 * blocks;
-    if (least() <= end) & (end <= size) {
+    if (least(k) <= end) & (end <= size) {
         Extent::End(end)
     } else {
         Extent::Wrong
     }
 }
 
-// The largest value of the field n.
-fn limit(n: usize) -> u64
-    requires { ⌜ (1 ≤ n) × (n ≤ 22) ⌝ }
-    ensures { λ r. ⌜ r ≡ limit kind n ⌝ }
-{
-    fields::limit(Layout::Typ23, n - 1)
-}
-
 // 25: whether the number is that of a field.
-fn is_field(n: usize) -> bool
-    ensures { λ r. ⌜ r ≡ holds (fieldRule n .claim) ⌝ }
+fn is_field(k: Kind, n: usize) -> bool
+    ensures { λ r. ⌜ r ≡ holds (fieldRule (rowOf k .layout) n .claim) ⌝ }
 {
-    (1 <= n) & (n <= count())
+    (1 <= n) & (n <= count(k))
 }
 
-// 25, then 26, of a field's number and a value for it; 0 where neither is given.
-pub fn field_number(field: usize, value: u64) -> usize
-    ensures { λ r. ⌜ r ≡ first (setRules field value) ⌝ }
-{
-    if !is_field(field) {
-        return rules::NO_FIELD;
-    }
-    if limit(field) < value {
-        return rules::TOO_LARGE;
-    }
-    0
+// 25, then 26, of a field's number and a value for it; else the place that takes the value.
+pub enum Slot {
+    At(Span),
+    Refused(usize),
 }
 
-// Whether a record's values fit. Each is looked at, whatever was found before, so that fields of one width share a test.
-fn record_fits(values: &[u64]) -> bool
-    requires { ⌜ length (now values) ≡ 22 ⌝ }
-    ensures { λ r. ⌜ r ≡ holds (fit (listOf kind) (now (values .entry))) ⌝ }
+pub fn check_field(k: Kind, field: usize, value: u64) -> Slot
+    ensures { λ r. ⌜ r ≡ slotIn (rowOf k .layout) field value ⌝ }
 {
-    let places = fields::typ23();
-    let n = count();
-    let mut ok = true;
+    if !is_field(k, field) {
+        return Slot::Refused(rules::NO_FIELD);
+    }
+    let p = fields::place(layout(k), field - 1);
+    if fields::largest(p) < value {
+        return Slot::Refused(rules::TOO_LARGE);
+    }
+    Slot::At(p)
+}
+
+// The first n values, and zeros after them.
+fn trimmed(values: [u64; MOST_VALUES], n: usize) -> [u64; MOST_VALUES]
+    requires { ⌜ n ≤ most ⌝ }
+    ensures { λ r. ⌜ r ≡ held (take n values) ⌝ }
+{
+    let mut kept = [0u64; MOST_VALUES];
     let mut i: usize = 0;
     while i < n {
-        let p = places[i];
-        ok = ok & (values[i] <= fields::largest(p));
+        kept[i] = values[i];
         i += 1;
     }
-    ok
-}
-
-// 26, of a record's values, lent so that they are not copied; 0 where it is not given.
-pub fn record_number(values: &[u64]) -> usize
-    requires { ⌜ length (now values) ≡ 22 ⌝ }
-    ensures { λ r. ⌜ r ≡ first (fitRules kind (now (values .entry))) ⌝ }
-{
-    if record_fits(values) {
-        return 0;
-    }
-    rules::TOO_LARGE
+    kept
 }
 
 impl Record {
-    // The record with the field's value; or 25 or 26, and the record as it was.
+    // The record with the field's value; or 25 or 26, and the record as it was; or 22, for a record of no listed kind, which has no values.
     pub fn set(self, field: usize, value: u64) -> Changed
-        ensures { λ r. ⌜ r ≡ setOf self field value ⌝ }
+        ensures { λ r. ⌜ r ≡ heldChanged (setOf (own self) field value) ⌝ }
     {
-        let number = field_number(field, value);
-        if number != 0 {
+        let typ = self.typ;
+        let revision = self.revision;
+        let Form::Ticket(k) = check_form(typ, revision) else {
+            return Changed {
+                number: rules::OTHER_KIND,
+                entry: 0,
+                next: Record {
+                    typ: typ,
+                    revision: revision,
+                    values: [0; MOST_VALUES],
+                },
+            };
+        };
+        let values = self.values;
+        let mut next = Record {
+            typ: typ,
+            revision: revision,
+            values: trimmed(values, count(k)),
+        };
+        if let Slot::Refused(number) = check_field(k, field, value) {
             return Changed {
                 number: number,
                 entry: 0,
-                next: self,
+                next: next,
             };
         }
-        let mut next = self;
         let i = field - 1;
         next.values[i] = value;
         Changed {
@@ -212,11 +184,18 @@ impl Record {
         }
     }
 
-    // The field's value; or 25 and 0.
+    // The field's value; or 22 or 25, and 0.
     pub fn value(self, field: usize) -> Value
-        ensures { λ r. ⌜ r ≡ valueOf self field ⌝ }
+        ensures { λ r. ⌜ r ≡ valueOf (own self) field ⌝ }
     {
-        if !is_field(field) {
+        let Form::Ticket(k) = check_form(self.typ, self.revision) else {
+            return Value {
+                number: rules::OTHER_KIND,
+                entry: 0,
+                value: 0,
+            };
+        };
+        if !is_field(k, field) {
             return Value {
                 number: rules::NO_FIELD,
                 entry: 0,

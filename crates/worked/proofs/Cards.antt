@@ -21,6 +21,7 @@ use Rattle.image.specs.Verdict.{isProduct, brokenAt, sharesAt, verdict}
 use Rattle.image.specs.Product.{elementAt, productAt}
 use Rattle.image.specs.Seen.{seen, asked}
 use Rattle.image.specs.Rules.{rules}
+use Rattle.ticket.specs.Kind.{formIn}
 use Rattle.reads.specs.Ticket.{ticketRefusal, readTicket}
 use Rattle.reads.specs.declared.TicketRead.{TicketRead}
 use Rattle.steps.specs.Step.{Step, stepRules}
@@ -34,7 +35,7 @@ judge c = verdict c
 
 -- and so a read, and a step
 unfoldable pub look : List ℕ → ℕ → ℕ → TicketRead
-unfolding judge readTicket ticketRefusal asked seen productAt elementAt product joined sector sectors mark
+unfolding judge formIn readTicket ticketRefusal asked seen productAt elementAt product joined sector sectors mark
 look c j room = readTicket c j room
 
 unfoldable pub act : List ℕ → Step → List ℕ

@@ -5,3 +5,5 @@ pub mod Readings
 pub mod Worked
 pub mod Told
 pub mod Night
+pub mod Area
+pub mod Mixed

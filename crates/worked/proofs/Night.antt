@@ -6,7 +6,7 @@ use Rattle.bits.proofs.Laws.{below, below-bytes}
 use Rattle.image.specs.Image.{product}
 use Rattle.rules.specs.Answer.{says}
 use Rattle.fields.specs.Packed.{packNumber}
-use Rattle.ticket.specs.Ticket.{setNumber}
+use Rattle.ticket.specs.Ticket.{setNumber, encodeNumber}
 use Rattle.reads.specs.Ticket.{readTicket}
 use Rattle.steps.specs.Step.{write, writeAll}
 use Rattle.steps.specs.Steps.{answer, next}
@@ -19,7 +19,7 @@ paid : (next latest (write 1 17 250) ≡ nightCard 0 0x07 0xFF 250) × (next mid
 unfolding act nightCard oneTicket shellStart
 paid = (refl, refl)
 
-written : (next latest (write 1 9 1440) ≡ nightCard 0 0x05 0xA0 0) × (next midnight (writeAll 1 (nightValues 2047 0)) ≡ nightCard 1 0x07 0xFF 0)
+written : (next latest (write 1 9 1440) ≡ nightCard 0 0x05 0xA0 0) × (next midnight (writeAll 1 23 2 (nightValues 2047 0)) ≡ nightCard 1 0x07 0xFF 0)
 unfolding act nightCard oneTicket shellStart
 written = (refl, refl)
 
@@ -32,13 +32,13 @@ reads = (refl, refl, refl, refl, refl, refl)
 
 -- and what each step is answered
 answers : (answer latest (write 1 17 250) ≡ says 0 0) × (answer midnight (write 1 17 250) ≡ says 0 0)
-    × (answer latest (write 1 9 1440) ≡ says 0 0) × (answer midnight (writeAll 1 (nightValues 2047 0)) ≡ says 0 0)
-    × (answer latest (write 1 9 2048) ≡ says 26 1) × (answer midnight (writeAll 1 (nightValues 2048 0)) ≡ says 26 1)
+    × (answer latest (write 1 9 1440) ≡ says 0 0) × (answer midnight (writeAll 1 23 2 (nightValues 2047 0)) ≡ says 0 0)
+    × (answer latest (write 1 9 2048) ≡ says 26 1) × (answer midnight (writeAll 1 23 2 (nightValues 2048 0)) ≡ says 26 1)
 unfolding act nightCard oneTicket shellStart
 answers = (refl, refl, refl, refl, refl, refl)
 
 pub night : Night
-unfolding act packNumber setNumber
+unfolding act encodeNumber packNumber setNumber
 night = record {
   latest-read = reads .0;
   midnight-read = reads .1;

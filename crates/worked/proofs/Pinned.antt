@@ -4,7 +4,9 @@ use Rattle.bits.specs.Bits.{digit, bit, number, field, bytes, stored, store}
 use Rattle.fields.specs.Fields.{fields, stores}
 use Rattle.fields.specs.Packed.{packNumber}
 use Rattle.rules.specs.First.{all, first}
-use Rattle.worked.specs.Pinned.{ImageFields, ShellFields, HeadFields, EntryFields, TailFields, HeaderFields, TicketFields, Pinned}
+use Rattle.ticket.specs.Kind.{formIn}
+use Rattle.ticket.specs.Ticket.{encodeNumber, decodeNumber}
+use Rattle.worked.specs.Pinned.{ImageFields, ShellFields, HeadFields, EntryFields, TailFields, HeaderFields, TicketFields, Area1Fields, Area2Fields, Area3Fields, Pinned}
 
 image : ImageFields
 unfolding packNumber first all fields stores store stored bytes field number bit digit
@@ -73,7 +75,7 @@ header = record {
 }
 
 ticket : TicketFields
-unfolding packNumber first all fields stores store stored bytes field number bit digit
+unfolding formIn encodeNumber decodeNumber packNumber first all fields stores store stored bytes field number bit digit
 ticket = record {
   RemoveDate = (refl, refl);
   ProductRetailer = (refl, refl);
@@ -99,6 +101,90 @@ ticket = record {
   CPICC = (refl, refl);
 }
 
+area1 : Area1Fields
+unfolding formIn encodeNumber decodeNumber packNumber first all fields stores store stored bytes field number bit digit
+area1 = record {
+  RemoveDate = (refl, refl);
+  ProductRetailer = (refl, refl);
+  TYP22Flags = (refl, refl);
+  RFU-4 = (refl, refl);
+  PassbackTime = (refl, refl);
+  IssueDate = (refl, refl);
+  ExpiryTime = (refl, refl);
+  RFU-8 = (refl, refl);
+  AutoRenewQuantity1 = (refl, refl);
+  Class = (refl, refl);
+  ValidityCode = (refl, refl);
+  ValidityStartDTS = (refl, refl);
+  PromotionCode = (refl, refl);
+  ValidOnDayCode = (refl, refl);
+  PartySizeAdult = (refl, refl);
+  PartySizeChild = (refl, refl);
+  PartySizeConcession = (refl, refl);
+  RFU-18 = (refl, refl);
+  AmountPaidCurrencyCode = (refl, refl);
+  AmountPaid = (refl, refl);
+  MethodOfPayment = (refl, refl);
+  VATSalesTax = (refl, refl);
+}
+
+area2 : Area2Fields
+unfolding formIn encodeNumber decodeNumber packNumber first all fields stores store stored bytes field number bit digit
+area2 = record {
+  RemoveDate = (refl, refl);
+  ProductRetailer = (refl, refl);
+  TYP22Flags = (refl, refl);
+  RFU-4 = (refl, refl);
+  PassbackTime = (refl, refl);
+  IssueDate = (refl, refl);
+  ExpiryTime = (refl, refl);
+  RFU-8 = (refl, refl);
+  AutoRenewQuantity1 = (refl, refl);
+  Class = (refl, refl);
+  ValidityCode = (refl, refl);
+  ValidityStartDTS = (refl, refl);
+  PromotionCode = (refl, refl);
+  ValidOnDayCode = (refl, refl);
+  PartySizeAdult = (refl, refl);
+  PartySizeChild = (refl, refl);
+  PartySizeConcession = (refl, refl);
+  RFU-18 = (refl, refl);
+  AmountPaidCurrencyCode = (refl, refl);
+  AmountPaid = (refl, refl);
+  MethodOfPayment = (refl, refl);
+  VATSalesTax = (refl, refl);
+}
+
+area3 : Area3Fields
+unfolding formIn encodeNumber decodeNumber packNumber first all fields stores store stored bytes field number bit digit
+area3 = record {
+  RemoveDate = (refl, refl);
+  ProductRetailer = (refl, refl);
+  TYP22Flags = (refl, refl);
+  RFU-4 = (refl, refl);
+  PassbackTime = (refl, refl);
+  IssueDate = (refl, refl);
+  ExpiryTime = (refl, refl);
+  RFU-8 = (refl, refl);
+  AutoRenewQuantity1 = (refl, refl);
+  Class = (refl, refl);
+  ValidityCode = (refl, refl);
+  RFU-12 = (refl, refl);
+  ValidityStartDate = (refl, refl);
+  RFU-14 = (refl, refl);
+  ValidityStartTime = (refl, refl);
+  PromotionCode = (refl, refl);
+  ValidOnDayCode = (refl, refl);
+  PartySizeAdult = (refl, refl);
+  PartySizeChild = (refl, refl);
+  PartySizeConcession = (refl, refl);
+  RFU-21 = (refl, refl);
+  AmountPaidCurrencyCode = (refl, refl);
+  AmountPaid = (refl, refl);
+  MethodOfPayment = (refl, refl);
+  VATSalesTax = (refl, refl);
+}
+
 pub pinned : Pinned
 unfolding packNumber first all fields stores store stored bytes field number bit digit
 pinned = record {
@@ -109,5 +195,8 @@ pinned = record {
   tail = tail;
   header = header;
   ticket = ticket;
+  area-1 = area1;
+  area-2 = area2;
+  area-3 = area3;
   flags = (refl, refl);
 }

@@ -6,6 +6,8 @@ use Rattle.fields.specs.Fields.{stores}
 use Rattle.fields.specs.Packed.{packNumber}
 use Rattle.rules.specs.First.{all, first}
 use Rattle.dates.proofs.Examples as dates
+use Rattle.ticket.specs.Kind.{formIn}
+use Rattle.ticket.specs.Ticket.{encodeNumber}
 use Rattle.image.specs.Image.{sectors, mark, product, joined, sector}
 use Rattle.image.specs.Product.{elementAt, productAt}
 use Rattle.image.specs.Seen.{seen}
@@ -16,7 +18,7 @@ use Rattle.worked.specs.Worked.{Worked}
 use Rattle.worked.proofs.Cards.{judge}
 
 pub worked : Worked
-unfolding judge packNumber first all stores store stored bytes number bit digit sectors mark product joined sector elementAt productAt seen stepRules answer next card shellSector shellStart directory
+unfolding judge formIn encodeNumber packNumber first all stores store stored bytes number bit digit sectors mark product joined sector elementAt productAt seen stepRules answer next card shellSector shellStart directory
 worked = record {
   entry = refl;
   header = refl;

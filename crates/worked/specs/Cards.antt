@@ -1,5 +1,5 @@
 -- An annex: cards byte by byte: those of document 01, "Examples by hand", the smallest and largest of "The image", one with two directory copies that differ,
--- one with a ticket of two sectors, and one with a ticket that ends in the night. Assumes nothing.
+-- one with a ticket of two sectors, one with a ticket that ends in the night, and one with an area ticket. Assumes nothing.
 use mathlib.Core.List.{List, [], _∷_, _++_}
 use Prim.Native.Nat.{ℕ}
 use lib.ListN.{replicate}
@@ -33,20 +33,25 @@ card17 a b =
     ∷ shellStart ++ (0x40 ∷ 0x11 ∷ 0x02 ∷ 0x09 ∷ 0x00 ∷ 0x00 ∷ 0x2D ∷ 0x99
     ∷ (replicate 936 0 ++ (directory a b ++ replicate 64 0)))
 
--- S 4, B 32, one entry, of TYP 23 and the EXP e, whose chain is its sector 1, used (the element is 3); the 32 bytes of that sector
-unfoldable pub oneTicket : ℕ → List ℕ → List ℕ
-oneTicket e sector =
+-- S 4, B 32, one entry, whose third byte is y (0xE1 of TYP 23, 0xC1 of TYP 22), of the EXP e, and whose chain is its sector 1, used (the element is 3); the 32
+-- bytes of that sector
+unfoldable pub oneTicket : ℕ → ℕ → List ℕ → List ℕ
+oneTicket y e sector =
     0x00 ∷ 0x84 ∷ 1 ∷ 0
     ∷ shellStart ++ (0x20 ∷ 0x04 ∷ 0x01 ∷ 0x01 ∷ 0x00 ∷ 0x00 ∷ 0xDB ∷ 0x33
-    ∷ (replicate 8 0 ++ (sector ++ (0 ∷ 1 ∷ 0x00 ∷ 0x06 ∷ 0xE1 ∷ 0x00 ∷ e ∷ 0xC0 ∷ replicate 56 0))))
+    ∷ (replicate 8 0 ++ (sector ++ (0 ∷ 1 ∷ 0x00 ∷ 0x06 ∷ y ∷ 0x00 ∷ e ∷ 0xC0 ∷ replicate 56 0))))
 
--- of EXP 1, the sector's first bytes a and b
+-- of TYP 23 and EXP 1, the sector's first bytes a and b
 unfoldable pub smallCard : ℕ → ℕ → List ℕ
-smallCard a b = oneTicket 1 (a ∷ b ∷ replicate 30 0)
+smallCard a b = oneTicket 0xE1 1 (a ∷ b ∷ replicate 30 0)
 
--- of EXP e, a ticket with a and b as its bytes 9 and 10, where ExpiryTime stands, and p as byte 19, the last of AmountPaid
+-- of TYP 23 and EXP e, a ticket with a and b as its bytes 9 and 10, where ExpiryTime stands, and p as byte 19, the last of AmountPaid
 unfoldable pub nightCard : ℕ → ℕ → ℕ → ℕ → List ℕ
-nightCard e a b p = oneTicket e (0x20 ∷ 0x02 ∷ (replicate 7 0 ++ (a ∷ b ∷ (replicate 8 0 ++ (p ∷ replicate 12 0)))))
+nightCard e a b p = oneTicket 0xE1 e (0x20 ∷ 0x02 ∷ (replicate 7 0 ++ (a ∷ b ∷ (replicate 8 0 ++ (p ∷ replicate 12 0)))))
+
+-- the 32 bytes of an area ticket: l and r its header's, x its bytes 9 to 11, where ExpiryTime stands, and y those from 13 on
+unfoldable pub areaSector : ℕ → ℕ → List ℕ → List ℕ → List ℕ
+areaSector l r x y = l ∷ r ∷ 0x1E ∷ 0x02 ∷ 0x01 ∷ 0x01 ∷ 0x05 ∷ 0x4F ∷ 0x9C ∷ x ++ (0x68 ∷ y)
 
 -- S 237, B 255, one entry, whose chain is its sector 1, fresh: the element is 1
 unfoldable pub largest : List ℕ
@@ -55,14 +60,22 @@ largest =
     ∷ shellStart ++ (0xFF ∷ 0xED ∷ 0x01 ∷ 0xEA ∷ 0x00 ∷ 0x00 ∷ 0xF9 ∷ 0xFC
     ∷ (replicate 59901 0 ++ (0 ∷ 1 ∷ 0x00 ∷ 0x06 ∷ 0xE1 ∷ 0x00 ∷ 0x01 ∷ 0x01 ∷ replicate 502 0)))
 
--- S 6, B 32, e# 2: the ticket of entry 1 is in sectors 1 and 3, with a and b as its bytes 9 and 10; entry 2 has sector 2; t is the table's second byte,
--- 0x80 where entry 1 is used and 0x00 where it is blocked
-unfoldable pub ticketCard : ℕ → ℕ → ℕ → List ℕ
-ticketCard a b t =
+-- S 6, B 32, e# 2: the ticket of entry 1, of TYP 23, is in sectors 1 and 3, with a and b as its bytes 9 and 10; t is the table's second byte, 0x80 where entry 1
+-- is used and 0x00 where it is blocked; entry 2, whose third byte is y, has sector 2, of these 32 bytes
+unfoldable pub twoTickets : ℕ → ℕ → ℕ → ℕ → List ℕ → List ℕ
+twoTickets a b t y sector =
     0x00 ∷ 0xC4 ∷ 1 ∷ 0
     ∷ shellStart ++ (0x20 ∷ 0x06 ∷ 0x02 ∷ 0x02 ∷ 0x00 ∷ 0x00 ∷ 0x07 ∷ 0x12 ∷ replicate 8 0
     ++ (0x40 ∷ 0x02 ∷ 0x1E ∷ 0x02 ∷ 0x01 ∷ 0x05 ∷ 0x4F ∷ 0xA7 ∷ 0x0F ∷ a ∷ b ∷ 0x53 ∷ 0x02 ∷ 0x01 ∷ 0x04 ∷ 0x96
     ∷ 0x00 ∷ 0x01 ∷ 0x86 ∷ 0xA0 ∷ 0x37 ∷ 0xD0 ∷ 0x07 ∷ 0x5B ∷ 0xCD ∷ 0x15 ∷ 0x15 ∷ 0x12 ∷ 0x34 ∷ 0xAA ∷ 0xBB ∷ 0xCC
-    ∷ 0x20 ∷ 0x02 ∷ replicate 30 0x22
+    ∷ sector
     ++ (replicate 32 0x33
-    ++ (0 ∷ 0 ∷ 0x00 ∷ 0x06 ∷ 0xE1 ∷ 0x27 ∷ 0x10 ∷ 0x00 ∷ 0x06 ∷ 0xE1 ∷ 0x00 ∷ 0x01 ∷ 0x6A ∷ t ∷ replicate 50 0))))
+    ++ (0 ∷ 0 ∷ 0x00 ∷ 0x06 ∷ 0xE1 ∷ 0x27 ∷ 0x10 ∷ 0x00 ∷ 0x06 ∷ y ∷ 0x00 ∷ 0x01 ∷ 0x6A ∷ t ∷ replicate 50 0))))
+
+-- entry 2 of TYP 23
+unfoldable pub ticketCard : ℕ → ℕ → ℕ → List ℕ
+ticketCard a b t = twoTickets a b t 0xE1 (0x20 ∷ 0x02 ∷ replicate 30 0x22)
+
+-- entry 2 of TYP 22 and revision 3: x its ticket's bytes 9 to 11, and p its byte 26, the last of AmountPaid
+unfoldable pub mixedCard : ℕ → ℕ → List ℕ → ℕ → List ℕ
+mixedCard a b x p = twoTickets a b 0x80 0xC1 (areaSector 0x20 3 x (replicate 13 0 ++ (p ∷ replicate 5 0)))

@@ -23,12 +23,13 @@ written = next used (write 1 9 1439)
 abbrev pub blocked : List ℕ
 blocked = next written (setMark 1 2)
 
--- what is read where ExpiryTime is `time`: taken, the header, the twenty-two values, the end (the entry's EXP is 10,000), the mark, two sectors
+-- what is read where ExpiryTime is `time`: taken, TYP 23, the header, the twenty-two values, the end (the entry's EXP is 10,000), the mark, two sectors
 abbrev pub ticket : ℕ → ℕ → ℕ → TicketRead
 ticket time end mark =
     record {
       number = 0;
       entry = 0;
+      typ = 23;
       header = 16 ∷ 0 ∷ 2 ∷ [];
       values = 30 ∷ 513 ∷ 5 ∷ 1 ∷ 15 ∷ 2 ∷ 9999 ∷ 8 ∷ time ∷ 10 ∷ 3 ∷ 2 ∷ 1 ∷ 4 ∷ 9 ∷ 6 ∷ 100000 ∷ 3 ∷ 2000 ∷ 123456789 ∷ 21 ∷ 4660 ∷ [];
       end = end;

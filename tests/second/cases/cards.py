@@ -1,9 +1,11 @@
 """Good cards over the whole range of sizes and chains."""
 
 from model.bits import write_bits
-from model.fields import ENTRY, HEAD, HEADER, TAIL, TICKET, encode, encode_ticket
+from model.fields import ENTRY, HEAD, HEADER, TAIL, encode
 from model.shell import encode_shell
 from model.table import BLOCKED, FRESH, USED, encode_table, psi, table_length
+
+from .forms import FORMS, most, packed, unpacked
 
 LARGEST_S, LARGEST_B = 237, 255
 
@@ -114,18 +116,25 @@ class Plan:
 
     def ticket_answer(self, j, record=None, mark=None):
         """The answer to `ticket` with a buffer that holds the product, after these changes."""
-        header, own_record = self.ticket[j]
+        form, header, own_record = self.ticket[j]
+        return self.read_answer(j, form, header, own_record if record is None else record, mark)
+
+    def read_answer(self, j, form, header, record, mark=None):
+        """The answer to `ticket` where the product has this form, header and record."""
         sectors, own_mark = self.chain[j]
-        record = own_record if record is None else record
-        mark = own_mark if mark is None else mark
         day = self.entry[j][6] or 16384
-        end = [day * 1440 + record[8], mark, len(sectors)]
-        return " ".join(map(str, [0, 0] + header + record + end))
+        end = [day * 1440 + record[form.time - 1], own_mark if mark is None else mark, len(sectors)]
+        return " ".join(map(str, [0, 0, form.typ] + header + record + end))
 
     def rest_answer(self, j):
         """The answer to `rest` with a buffer that holds the product."""
-        product = b"".join(self.bytes[sector] for sector in self.chain[j][0])
-        return product[29:4 * self.ticket[j][0][0]].hex()
+        form, header, _ = self.ticket[j]
+        product = b"".join(filled(self.bytes.get(n, b""), self.B) for n in self.chain[j][0])
+        return product[form.end:4 * header[0]].hex() or "="
+
+    def product(self, j, image):
+        """The bytes of entry j's product in an image of this card."""
+        return b"".join(bytes(image[self.place(n):self.place(n + 1)]) for n in self.chain[j][0])
 
     def chain_answer(self, j):
         """The answer to `chain`."""
@@ -143,14 +152,11 @@ def most_entries(S, B):
     return max(0, min(S - 3, (B - 16 - table_length(S)) // 5))
 
 
-def random_record(dice):
-    """Twenty-two values that fit their fields, often at an end of the range or around midnight."""
-    record = []
-    for _, _, width in TICKET:
-        most = 2 ** width - 1
-        record.append(dice.pick([0, most, dice.between(0, most), dice.between(0, most)]))
+def random_record(dice, form):
+    """Values that fit the form's fields, often at an end of the range or around midnight."""
+    record = [dice.pick([0, top, dice.between(0, top), dice.between(0, top)]) for top in most(form)]
     if dice.chance(25):
-        record[8] = dice.pick([1439, 1440])
+        record[form.time - 1] = dice.pick([1439, 1440])
     return record
 
 
@@ -224,7 +230,7 @@ def thin_sector(dice, B):
 def full_plan(dice):
     """The largest card, one ticket in all its sectors."""
     plan = random_plan(dice, sizes=(LARGEST_S, LARGEST_B, 1), sparse=True)
-    plan.entry = {1: random_entry(dice, 23)}
+    plan.entry = {1: random_entry(dice)}
     plan.chain = {1: ([1] + dice.shuffled(range(2, LARGEST_S - 2)), dice.pick([FRESH, USED]))}
     plan.bytes = {n: thin_sector(dice, plan.B) for n in range(1, LARGEST_S - 2)}
     plan.ticket = {}
@@ -233,25 +239,49 @@ def full_plan(dice):
 
 
 def crowded_plan(dice):
-    """The most entries a card can have, each with a product of one sector."""
+    """The most entries a card can have, each with a product of one sector, every kind in turn."""
     plan = random_plan(dice, sizes=(44, 252, 41), sparse=True)
     plan.entry = {j: random_entry(dice) for j in range(1, 42)}
     plan.chain = {j: ([j], dice.pick([FRESH, USED, BLOCKED])) for j in range(1, 42)}
     plan.bytes = {n: thin_sector(dice, plan.B) for n in range(1, 42)}
     plan.ticket = {}
     for j in range(1, 42):
-        random_ticket(dice, plan, j)
+        random_ticket(dice, plan, j, FORMS[j % len(FORMS)])
     return plan
 
 
 def night_plan():
-    """A ticket of one sector for each end around midnight."""
-    plan = Plan(16, 64, len(NIGHT))
-    for j, (exp, time, _) in enumerate(NIGHT, 1):
-        plan.entry[j] = [0, 1, 23, 1, 0, 0, exp]
+    """A ticket of one sector for each kind and each end around midnight."""
+    plan = Plan(20, 112, len(FORMS) * len(NIGHT))
+    for j in range(1, plan.entries + 1):
+        form, (exp, time, _) = FORMS[(j - 1) // len(NIGHT)], NIGHT[(j - 1) % len(NIGHT)]
+        plan.entry[j] = [0, 1, form.typ, 1, 0, 0, exp]
         plan.chain[j] = ([j], FRESH)
         plan.bytes[j] = bytes(plan.B)
-        put_ticket(plan, j, [8, 0, 2], record_with([0] * 22, 9, time))
+        record = record_with([0] * len(form.widths), form.time, time)
+        put_ticket(plan, j, form, [form.least // 4, 0, form.revision], record)
+    return plan
+
+
+def kinds_plan():
+    """Every kind twice, no two bytes of a product alike: with the least dataset, and with one block more that ends the product."""
+    plan = Plan(12, 64, 8)
+    for j in range(1, plan.entries + 1):
+        form = FORMS[(j - 1) // 2]
+        plan.entry[j] = [0, 1, form.typ, 1, 0, 0, 100 * j]
+        plan.chain[j] = ([j], USED)
+        plan.bytes[j] = bytes((32 * j + i) % 256 for i in range(plan.B))
+        header = [form.least // 4 if j % 2 else plan.B // 4, j, form.revision]
+        put_ticket(plan, j, form, header, unpacked(form, plan.bytes[j][2:form.end]))
+    return plan
+
+
+def smallest_plan(dice, form):
+    """The smallest card, with one ticket of this form."""
+    plan = random_plan(dice, sizes=(4, 32, 1))
+    plan.entry = {1: random_entry(dice)}
+    plan.chain = {1: ([1], dice.pick([FRESH, USED]))}
+    random_ticket(dice, plan, 1, form)
     return plan
 
 
@@ -281,19 +311,20 @@ def random_chains(dice, plan):
         plan.chain[j] = ([j] + taken, dice.pick([FRESH, FRESH, USED, USED, BLOCKED]))
 
 
-def random_ticket(dice, plan, j):
-    """Make entry j a ticket that can be read."""
-    plan.entry[j] = random_entry(dice, 23)
-    length = plan.product_length(j)
-    most = min(63, length // 4)
-    header = [dice.pick([8, most, dice.between(8, most)]), dice.below(64), 2]
-    put_ticket(plan, j, header, random_record(dice))
+def random_ticket(dice, plan, j, form=None):
+    """Make entry j a ticket that can be read, no zeros after its fixed fields."""
+    form = dice.pick(FORMS) if form is None else form
+    plan.entry[j] = random_entry(dice, form.typ)
+    plan.bytes[j] = plan.bytes[j][:form.end] + dice.data(3) + plan.bytes[j][form.end + 3:]
+    least, blocks = form.least // 4, min(63, plan.product_length(j) // 4)
+    header = [dice.pick([least, blocks, dice.between(least, blocks)]), dice.below(64), form.revision]
+    put_ticket(plan, j, form, header, random_record(dice, form))
 
 
-def put_ticket(plan, j, header, record):
+def put_ticket(plan, j, form, header, record):
     """Let entry j's product hold this header and this record."""
-    plan.ticket[j] = (header, record)
-    plan.bytes[j] = encode(HEADER, header) + encode_ticket(record) + plan.bytes[j][29:]
+    plan.ticket[j] = (form, header, record)
+    plan.bytes[j] = encode(HEADER, header) + packed(form, record) + plan.bytes[j][form.end:]
 
 
 def element_set(plan, image, sector, element):

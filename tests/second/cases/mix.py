@@ -1,11 +1,12 @@
 """Random cases of every kind, for long comparisons."""
 
-from model.fields import SHELL, TICKET
+from model.fields import SHELL
 from model.table import psi, table_length
 
 from . import calls, faults
-from .calls import BIG, words
-from .cards import crowded_plan, full_plan, random_plan, random_record
+from .calls import record_line, words
+from .cards import crowded_plan, full_plan, kinds_plan, random_plan, random_record
+from .forms import BIG, FORMS, MOST_BYTES, MOST_VALUES, UNLISTED, most, name
 from .values import LAYOUTS, random_shell, random_values
 
 NONSENSE = ("", " ", "?", "Check", "check 1", "check ", " check", "shell 1", "directory 0", "table 1", "entry",
@@ -13,7 +14,9 @@ NONSENSE = ("", " ", "?", "Check", "check 1", "check ", " check", "shell 1", "di
             "ticket 1 1 1", "rest", "rest 1 65537", "buffer", "buffer 65537", "buffer -", "field 1 1", "field 1 1 1 1",
             "record 1", "mark 1", "mark 1 1 1", "image", "image 65536", "image -", "at 0", "at 0 0", "at 0 AA",
             "at 18446744073709551615 00", "at 65535 00", "keep 1", "bytes 1", "touched 1", "list 1", "unknown", "encode",
-            "decode-entry 00", "encode-entry 1", "date x", "crc", "encode-table 4", "value 1", "set 1", "say_check")
+            "decode-entry 00", "encode-entry 1", "date x", "crc", "encode-table 4", "value 1", "set 1", "say_check",
+            "record 1 22", "record 1 22 1", "record 1 22 1 0", "record 1 23 2 x", "set 22 1", "set 22 1 1 1", "encode-ticket 22 2",
+            "encode-ticket 21", "encode-ticket 23 18446744073709551616", "record 1 18446744073709551616 2")
 
 ON_AN_IMAGE = ("check", "list", "reads", "steps", "touched")
 
@@ -70,7 +73,7 @@ def good_case(script, dice):
     """A good card with reads, steps and what they touched."""
     plan = random_plan(dice, small=dice.chance(40), sparse=dice.chance(20), sizes=sizes_case(dice))
     if dice.below(60) == 0:
-        plan = dice.pick([full_plan, crowded_plan])(dice)
+        plan = dice.pick([full_plan, crowded_plan, lambda _: kinds_plan()])(dice)
     image = plan.image()
     script.load(image, fresh=True)
     script.say("check", expect="0 0")
@@ -133,23 +136,51 @@ def open_case(script, dice, image, answer):
         script.say("buffer 303")
     script.say("keep")
     for _ in range(dice.between(0, 3)):
-        j = dice.between(0, 4)
-        script.say(dice.pick(["field %d 1 255" % j, "field %d 23 0" % j, "mark %d 1" % j, "mark %d 2" % j,
-                              "mark %d 3" % j, "record %d %s" % (j, words(random_record(dice)))]))
+        j, form = dice.between(0, 4), dice.pick(FORMS)
+        script.say(dice.pick(["field %d 1 255" % j, "field %d 23 0" % j, "field %d 26 0" % j, "mark %d 1" % j, "mark %d 2" % j,
+                              "mark %d 3" % j, "record %d %d %d" % ((j,) + dice.pick(UNLISTED)),
+                              record_line(j, form, random_record(dice, form)), record_line(j, form, random_record(dice, form))]))
     script.say("touched")
     show_bytes(script, dice)
 
 
-def near(dice, most):
+def near(dice, top):
     """A value at or near a bound."""
-    return dice.pick([0, 1, most, most, most + 1, most - 1, dice.between(0, most), dice.between(0, most), BIG])
+    return dice.pick([0, 1, top, top, top + 1, top - 1, dice.between(0, top), dice.between(0, top), BIG])
 
 
-def near_width(dice, field):
+def near_width(dice, form, field):
     """A value at or near the widest of a ticket field, for ExpiryTime often on either side of midnight."""
-    if field == 9 and dice.chance(40):
+    if field == form.time and dice.chance(40):
         return dice.pick([1439, 1440])
-    return near(dice, 2 ** TICKET[field - 1][2] - 1)
+    return near(dice, most(form)[field - 1])
+
+
+def random_ticket_call(script, dice):
+    """Encode, decode, set or read a record of any kind, or of none."""
+    form = dice.pick(FORMS)
+    kind, fields = name(form), len(form.widths)
+    if dice.chance(15):
+        kind = words(dice.pick(UNLISTED))
+        fields = dice.pick([0, 22, MOST_VALUES, MOST_VALUES + 1, dice.between(0, MOST_VALUES)])
+        field, values = dice.pick([0, 1, 22, 26]), [near(dice, 255) for _ in range(fields)]
+        script.say(words(["set", kind, field, near(dice, 255)] + values))
+        script.say(words(["value", kind, field] + values))
+        script.say(words(["encode-ticket", kind] + values))
+        script.say("decode-ticket", kind, dice.data(dice.pick([0, form.end - 2, MOST_BYTES, MOST_BYTES + 1])).hex() or "-")
+    elif dice.chance(50):
+        record = random_record(dice, form)
+        if dice.chance(40):
+            field = dice.between(1, fields)
+            record[field - 1] = near_width(dice, form, field)
+        script.say("encode-ticket", kind, words(record))
+        script.say("decode-ticket", kind, dice.data(form.end - 2 + dice.pick([0] * 10 + [-1, 1])).hex())
+    else:
+        field = near(dice, fields)
+        value = near_width(dice, form, field) if 1 <= field <= fields else near(dice, 255)
+        record = random_record(dice, form) + [0]
+        script.say("set", kind, field, value, words(record[:fields + dice.pick([0] * 10 + [-1, 1])]))
+        script.say("value", kind, near(dice, fields), words([dice.word() for _ in range(fields)]))
 
 
 def random_value_call(script, dice):
@@ -169,18 +200,8 @@ def random_value_call(script, dice):
             values[i] = near(dice, 2 ** layout[i][1] - 1)
         script.say("encode-" + name, words(values))
         script.say("decode-" + name, dice.data(size).hex())
-    elif kind in (4, 5):
-        record = random_record(dice)
-        if dice.chance(40):
-            field = dice.between(1, 22)
-            record[field - 1] = near_width(dice, field)
-        script.say("encode-ticket", words(record))
-        script.say("decode-ticket", dice.data(27).hex())
-    elif kind in (6, 7):
-        field = near(dice, 22)
-        value = near_width(dice, field) if 1 <= field <= 22 else near(dice, 255)
-        script.say("set", field, value, words(random_record(dice)))
-        script.say("value", near(dice, 22), words([dice.word() for _ in range(22)]))
+    elif kind in (4, 5, 6, 7):
+        random_ticket_call(script, dice)
     elif kind in (8, 9):
         values = random_shell(dice)
         if dice.chance(50):

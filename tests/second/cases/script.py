@@ -39,8 +39,8 @@ class Script:
         """Give one command and expect a number and an entry at the answer's front."""
         answer = self.say(*parts)
         if answer is not None and expect is not None:
-            given = tuple(int(word) for word in answer.split(" ")[:2])
-            if given != tuple(expect):
+            given = answer.split(" ")[:2]
+            if given != [str(part) for part in expect]:
                 self.wrong.append((" ".join(str(part) for part in parts), given, tuple(expect)))
         return answer
 

@@ -1,10 +1,11 @@
 """Values apart from an image: checksums, dates, records, encoders and decoders."""
 
-from model.fields import ENTRY, HEAD, HEADER, SHELL, TAIL, TICKET
+from model.fields import ENTRY, HEAD, HEADER, SHELL, TAIL
 from model.table import psi, table_length
 
-from .calls import BIG, words
+from .calls import words
 from .cards import digits, random_record, record_with
+from .forms import BIG, FORMS, MOST_BYTES, MOST_VALUES, UNLISTED, most, name, packed, unpacked
 
 PUBLISHED = (("000000", 0xC6CC), ("0faaff", 0xD1FC), ("0a123456", 0xF62C), (b"123456789".hex(), 0x906E))
 
@@ -84,46 +85,76 @@ def random_values(dice, widths):
     return [dice.pick([0, 2 ** width - 1, dice.below(2 ** width), dice.below(2 ** width)]) for width in widths]
 
 
-def ticket_record_calls(script, dice, count):
-    """Encode and decode a ticket, set a field and read a field."""
-    refused = "26 0 " + "00" * 27
-    most = [2 ** width - 1 for _, _, width in TICKET]
-    around = [record_with(random_record(dice), 9, time) for time in (1439, 1440, 2047)]
-    for record in [[0] * 22, most] + around + [random_record(dice) for _ in range(count)]:
-        answer = script.say("encode-ticket", words(record))
-        if answer is not None:
-            script.say("decode-ticket", answer[4:], expect=words([0, 0] + record))
-    for text in ["ff" * 27] + [dice.data(27).hex() for _ in range(count)]:
-        answer = script.say("decode-ticket", text)
-        if answer is not None:
-            script.say("encode-ticket", answer[4:], expect="0 0 " + text)
-    for field, (_, _, width) in enumerate(TICKET, 1):
-        for value in (2 ** width, BIG):
-            record = random_record(dice)
-            script.say("set", field, value, words(record), expect=words([26, 0] + record))
+def ticket_record_calls(script, dice, form, count):
+    """Encode and decode a ticket of one kind, set a field and read a field."""
+    kind, fields, size = name(form), len(form.widths), form.end - 2
+    around = [record_with(random_record(dice, form), form.time, time) for time in (1439, 1440, 2047)]
+    for record in [[0] * fields, most(form)] + around + [random_record(dice, form) for _ in range(count)]:
+        script.say("encode-ticket", kind, words(record), expect="0 0 " + packed(form, record).hex())
+        script.say("decode-ticket", kind, packed(form, record).hex(), expect=words([0, 0] + record))
+    for data in [b"\xff" * size] + [dice.data(size) for _ in range(count)]:
+        record = unpacked(form, data)
+        script.say("decode-ticket", kind, data.hex(), expect=words([0, 0] + record))
+        script.say("encode-ticket", kind, words(record), expect="0 0 " + data.hex())
+    for field, top in enumerate(most(form), 1):
+        for value in (top + 1, BIG):
+            record = random_record(dice, form)
+            script.say("set", kind, field, value, words(record), expect=words([26, 0] + record))
             record[field - 1] = value
-            script.say("encode-ticket", words(record), expect=refused)
+            script.say("encode-ticket", kind, words(record), expect="26 0 -")
             if dice.chance(30):
-                record[dice.below(22)] = BIG
-                script.say("encode-ticket", words(record), expect=refused)
-        for value in [0, most[field - 1]] + ([1439, 1440] if field == 9 else []):
-            record = random_record(dice)
+                record[dice.below(fields)] = BIG
+                script.say("encode-ticket", kind, words(record), expect="26 0 -")
+        for value in [0, top] + ([1439, 1440] if field == form.time else []):
+            record = random_record(dice, form)
             changed = record_with(record, field, value)
-            script.say("set", field, value, words(record), expect=words([0, 0] + changed))
-            script.say("value", field, words(record), expect=words([0, 0, record[field - 1]]))
-    for field in (0, 23, 24, 256 + 1, 2 ** 32 + 1, BIG):
-        record = random_record(dice)
-        script.say("set", field, dice.pick([0, BIG]), words(record), expect=words([25, 0] + record))
-        script.say("value", field, words(record), expect="25 0 0")
-    wide = [dice.word() for _ in range(22)]
-    script.say("set 1 0", words(wide), expect=words([0, 0, 0] + wide[1:]))
-    script.say("set 1 256", words(wide), expect=words([26, 0] + wide))
-    script.say("value 22", words(wide), expect=words([0, 0, wide[21]]))
-    for text in ("set 1 1", "set 1 1 " + words([0] * 21), "set 1 1 " + words([0] * 23),
-                 "value 1 " + words([0] * 21), "value 1 " + words([0] * 23), "value 1 " + words([0] * 21) + " x",
-                 "encode-ticket " + words([0] * 21), "encode-ticket " + words([0] * 23),
-                 "encode-ticket " + words([0] * 21 + [2 ** 64]), "decode-ticket " + "00" * 26,
-                 "decode-ticket " + "00" * 28, "decode-ticket -"):
+            script.say("set", kind, field, value, words(record), expect=words([0, 0] + changed))
+            script.say("value", kind, field, words(record), expect=words([0, 0, record[field - 1]]))
+    for field in (0, fields + 1, fields + 2, 256 + 1, 2 ** 32 + 1, BIG):
+        record = random_record(dice, form)
+        script.say("set", kind, field, dice.pick([0, BIG]), words(record), expect=words([25, 0] + record))
+        script.say("value", kind, field, words(record), expect="25 0 0")
+    wide = [dice.word() | 2 ** 63 for _ in range(fields)]
+    script.say("set", kind, "1 0", words(wide), expect=words([0, 0, 0] + wide[1:]))
+    script.say("set", kind, "1 256", words(wide), expect=words([26, 0] + wide))
+    script.say("value", kind, fields, words(wide), expect=words([0, 0, wide[-1]]))
+    for values in (fields - 1, fields + 1, 0):
+        for text in ("set %s 1 1", "value %s 1", "encode-ticket %s", "set %s 0 0", "value %s 0"):
+            script.say(text % kind, words([0] * values) if values else "1", expect="?")
+    for text in ("set " + kind, "set %s 1" % kind, "set %s 1 1" % kind, "value " + kind, "value %s 1" % kind, "encode-ticket " + kind,
+                 "decode-ticket " + kind, "decode-ticket %s -" % kind, "decode-ticket %s %s" % (kind, "00" * (size - 1)),
+                 "decode-ticket %s %s" % (kind, "00" * (size + 1)), "decode-ticket %s %s 0" % (kind, "00" * size),
+                 "decode-ticket %s %s" % (kind, "0G" * size), "value %s 1 %s x" % (kind, words([0] * (fields - 1))),
+                 "encode-ticket %s %s" % (kind, words([0] * (fields - 1) + [2 ** 64])),
+                 "set %s 1 1 %s" % (kind, words([0] * (fields - 1) + [2 ** 64])),
+                 "set %s %d 1 %s" % (kind, 2 ** 64, words([0] * fields))):
+        script.say(text, expect="?")
+
+
+def unlisted_calls(script, dice, kinds):
+    """22 for a TYP and revision on no list, whatever else is given, up to the most values that a list has."""
+    for typ, revision in kinds:
+        kind = "%d %d" % (typ, revision)
+        counts = (0, 22, MOST_VALUES) if dice.chance(20) else (dice.between(0, MOST_VALUES),)
+        for count in counts:
+            values, field = [dice.pick([0, BIG])] * count, dice.pick([0, 1, 26, BIG])
+            script.say(words(["set", kind, field, dice.pick([0, BIG])] + values), expect="22 0")
+            script.say(words(["value", kind, field] + values), expect="22 0 0")
+            script.say(words(["encode-ticket", kind] + values), expect="22 0 -")
+            script.say("decode-ticket", kind, "a5" * min(count, MOST_BYTES) or "-", expect="22 0")
+        script.say("decode-ticket", kind, "a5" * MOST_BYTES, expect="22 0")
+        if dice.chance(20):
+            over = [0] * (MOST_VALUES + 1)
+            for text in (["set", kind, 1, 1] + over, ["value", kind, 1] + over, ["encode-ticket", kind] + over,
+                         ["decode-ticket", kind, "a5" * (MOST_BYTES + 1)], ["set", kind], ["set", kind, 1], ["value", kind],
+                         ["decode-ticket", kind], ["decode-ticket", kind, "0"], ["decode-ticket", kind, "-", "-"]):
+                script.say(words(text), expect="?")
+    for typ, revision in ((2 ** 64, 2), (22, 2 ** 64), (2 ** 64 + 22, 1), ("x", 1), (22, "x"), ("-", 2), (22, "-1"), ("", 1), ("22", "")):
+        for text in (["set", typ, revision, 1, 1], ["value", typ, revision, 1], ["encode-ticket", typ, revision],
+                     ["decode-ticket", typ, revision, "-"]):
+            script.say(words(text), expect="?")
+    for text in ("set", "set 22", "set 21", "value", "value 22", "encode-ticket", "encode-ticket 22", "encode-ticket 21", "decode-ticket",
+                 "decode-ticket 22", "decode-ticket 21", "decode-ticket -"):
         script.say(text, expect="?")
 
 
@@ -228,6 +259,8 @@ def record_group(script, dice, count, sectors):
     script.say("encode-header 8 0 2", expect="0 0 2002")
     for name, layout, size in LAYOUTS:
         layout_calls(script, dice, name, layout, size, count)
-    ticket_record_calls(script, dice, count)
+    for form in FORMS:
+        ticket_record_calls(script, dice, form, count)
+    unlisted_calls(script, dice, UNLISTED)
     shell_calls(script, dice, max(2, count // 2))
     table_calls(script, dice, sectors)

@@ -1,8 +1,9 @@
 """The choice of commands that is kept with its answers, group by group."""
 
 from . import between, calls, faults, mix, values
-from .cards import Plan, crowded_plan, full_plan, night_plan, random_plan
+from .cards import Plan, crowded_plan, full_plan, kinds_plan, night_plan, random_plan, smallest_plan
 from .dice import Dice
+from .forms import FORMS, UNLISTED
 
 SECTORS = (4, 5, 6, 7, 8, 9, 15, 16, 17, 24, 31, 32, 33, 63, 64, 65, 127, 128, 129, 237, 255)
 
@@ -129,9 +130,9 @@ def reads_group(script, dice):
                  "directory 1", "table 1", "entry", "entry 1 1", "chain", "chain x", "entry 18446744073709551616"):
         script.say(text, expect="?")
     script.say("buffer 0", expect="-")
-    plans = with_tickets(dice, 2, True, False, (4, 32, 1)) + with_tickets(dice, 8, True, False)
-    plans += with_tickets(dice, 14, False, True)
-    plans += with_tickets(dice, 1, False, True, (237, 255, 1)) + [crowded_plan(dice), night_plan()]
+    plans = [smallest_plan(dice, form) for form in FORMS] + with_tickets(dice, 8, True, False)
+    plans += with_tickets(dice, 12, False, True)
+    plans += with_tickets(dice, 1, False, True, (237, 255, 1)) + [crowded_plan(dice), night_plan(), kinds_plan()]
     for plan in plans:
         good = plan.image()
         script.load(good)
@@ -165,26 +166,34 @@ def reads_group(script, dice):
 
 def steps_group(script, dice):
     script.load(b"")
-    for text in ("field 1 1 1", "mark 1 1", "record 1 " + calls.words([0] * 22)):
+    for text in ["field 1 1 1", "mark 1 1"] + [calls.record_line(1, form, [0] * len(form.widths)) for form in FORMS]:
         script.say(text, expect="1 0")
-    for text in ("field", "field 1 1", "field 1 1 1 1", "mark 1", "mark 1 1 1", "record 1", "mark 1 x",
-                 "record 1 " + calls.words([0] * 21), "record 1 " + calls.words([0] * 23),
-                 "field 1 1 18446744073709551616"):
+    for typ, revision in UNLISTED:
+        script.say("record 1", typ, revision, expect="1 0")
+    for text in ("field", "field 1 1", "field 1 1 1 1", "mark 1", "mark 1 1 1", "record", "record 1", "record 1 22", "mark 1 x",
+                 "record 1 21", "record x 21 1", "record 1 21 1 x", "record 1 21 18446744073709551616",
+                 "record 1 18446744073709551638 1", "field 1 1 18446744073709551616"):
         script.say(text, expect="?")
+    for form in FORMS:
+        for count in (0, 1, len(form.widths) - 1, len(form.widths) + 1):
+            script.say(calls.words(["record 1", form.typ, form.revision] + [0] * count), expect="?")
 
     def whole():
         script.say("bytes")
 
     calls.night_calls(script)
     whole()
-    small = with_tickets(dice, 2, True, False, (4, 32, 1)) + with_tickets(dice, 3, True, False, (5, 32, 1))
+    calls.kinds_calls(script, dice, whole)
+    for _ in range(4):
+        calls.mixed_kinds(script, dice)
+    small = [smallest_plan(dice, form) for form in FORMS] + with_tickets(dice, 2, True, False, (5, 32, 1))
     small += with_tickets(dice, 5, True, False)
     for plan in small:
         good = plan.image()
         for j in dice.some(calls.tickets(plan, writable=True), 1):
             script.load(good)
             calls.expiry_steps(script, dice, plan, j, whole)
-            calls.field_steps(script, dice, plan, j, dice.some(range(1, 23), 8), whole)
+            calls.field_steps(script, dice, plan, j, 6, whole)
             calls.record_steps(script, dice, plan, j, whole)
         for j in dice.some(sorted(plan.chain), 2):
             calls.mark_steps(script, dice, plan, j, whole)
@@ -209,7 +218,7 @@ def steps_group(script, dice):
         script.say("keep")
         for j in dice.some(calls.tickets(plan, writable=True), 1):
             calls.expiry_steps(script, dice, plan, j)
-            calls.field_steps(script, dice, plan, j, dice.some(range(1, 23), 6))
+            calls.field_steps(script, dice, plan, j, 5)
             script.say("touched")
             calls.record_steps(script, dice, plan, j)
             script.say("touched")

@@ -20,11 +20,13 @@ HEAD = (("DIRLength", 6), ("DIRBitMap", 6), ("DIRFormatRevision", 4))
 # Document 004, Table 5 and 5.2: the six bytes after the chain table.
 TAIL = (("DIRS#", 8), ("KID", 4), ("INS#", 4), ("ISAMID", 32))
 
-# Document 000, Table 31a: the two bytes before the fields of a ticket.
+# Document 000, Tables 31a, 27, 27a and 3.27: the two bytes before the fields of a ticket.
 HEADER = (("IPELength", 6), ("IPEBitMap", 6), ("IPEFormatRevision", 4))
 
-# Document 000, Table 31a: name, first bit in the product, width.
-TICKET = (
+# The lists of fields: name, first bit in the product, width.
+
+# Document 000, Table 31a.
+TYP_23_REVISION_2 = (
     ("RemoveDate", 16, 8),
     ("ProductRetailer", 24, 16),
     ("TYP23Flags", 40, 8),
@@ -49,8 +51,130 @@ TICKET = (
     ("CPICC", 216, 16),
 )
 
+# Document 000, Table 27.
+TYP_22_REVISION_1 = (
+    ("RemoveDate", 16, 8),
+    ("ProductRetailer", 24, 16),
+    ("TYP22Flags", 40, 16),
+    ("RFU", 56, 2),
+    ("PassbackTime", 58, 6),
+    ("IssueDate", 64, 14),
+    ("ExpiryTime", 78, 11),
+    ("RFU", 89, 1),
+    ("AutoRenewQuantity1", 90, 6),
+    ("Class", 96, 3),
+    ("ValidityCode", 99, 5),
+    ("ValidityStartDTS", 104, 24),
+    ("PromotionCode", 128, 8),
+    ("ValidOnDayCode", 136, 8),
+    ("PartySizeAdult", 144, 8),
+    ("PartySizeChild", 152, 8),
+    ("PartySizeConcession", 160, 8),
+    ("RFU", 168, 4),
+    ("AmountPaidCurrencyCode", 172, 4),
+    ("AmountPaid", 176, 16),
+    ("MethodOfPayment", 192, 4),
+    ("VATSalesTax", 196, 12),
+)
+
+# Document 000, Table 27a.
+TYP_22_REVISION_2 = (
+    ("RemoveDate", 16, 8),
+    ("ProductRetailer", 24, 16),
+    ("TYP22Flags", 40, 16),
+    ("RFU", 56, 2),
+    ("PassbackTime", 58, 6),
+    ("IssueDate", 64, 14),
+    ("ExpiryTime", 78, 11),
+    ("RFU", 89, 1),
+    ("AutoRenewQuantity1", 90, 6),
+    ("Class", 96, 3),
+    ("ValidityCode", 99, 5),
+    ("ValidityStartDTS", 104, 24),
+    ("PromotionCode", 128, 8),
+    ("ValidOnDayCode", 136, 8),
+    ("PartySizeAdult", 144, 8),
+    ("PartySizeChild", 152, 8),
+    ("PartySizeConcession", 160, 8),
+    ("RFU", 168, 4),
+    ("AmountPaidCurrencyCode", 172, 4),
+    ("AmountPaid", 176, 32),
+    ("MethodOfPayment", 208, 4),
+    ("VATSalesTax", 212, 12),
+)
+
+# Document 000, Table 3.27.
+TYP_22_REVISION_3 = (
+    ("RemoveDate", 16, 8),
+    ("ProductRetailer", 24, 16),
+    ("TYP22Flags", 40, 16),
+    ("RFU", 56, 2),
+    ("PassbackTime", 58, 6),
+    ("IssueDate", 64, 14),
+    ("ExpiryTime", 78, 11),
+    ("RFU", 89, 1),
+    ("AutoRenewQuantity1", 90, 6),
+    ("Class", 96, 3),
+    ("ValidityCode", 99, 5),
+    ("RFU", 104, 2),
+    ("ValidityStartDate", 106, 14),
+    ("RFU", 120, 5),
+    ("ValidityStartTime", 125, 11),
+    ("PromotionCode", 136, 8),
+    ("ValidOnDayCode", 144, 8),
+    ("PartySizeAdult", 152, 8),
+    ("PartySizeChild", 160, 8),
+    ("PartySizeConcession", 168, 8),
+    ("RFU", 176, 4),
+    ("AmountPaidCurrencyCode", 180, 4),
+    ("AmountPaid", 184, 32),
+    ("MethodOfPayment", 216, 4),
+    ("VATSalesTax", 220, 12),
+)
+
 TICKET_FIRST_BIT = 16
-TICKET_END_BIT = 232
+BLOCK_BYTES = 4
+
+
+class Kind:
+    """A kind of ticket: its TYP, its revision and its list of fields."""
+
+    def __init__(self, typ, revision, fields):
+        self.typ, self.revision, self.fields = typ, revision, fields
+
+    def end_byte(self):
+        """The bytes up to the end of the fixed fields; the first byte handed back."""
+        _, first, width = self.fields[-1]
+        return (first + width) // 8
+
+    def least_dataset(self):
+        """The fixed fields in whole blocks."""
+        return BLOCK_BYTES * -(-self.end_byte() // BLOCK_BYTES)
+
+    def has_field(self, number):
+        """Whether a field of the list has this number."""
+        return 1 <= number <= len(self.fields)
+
+    def value_fits(self, number, value):
+        """Whether a value fits the width of field `number`."""
+        _, _, width = self.fields[number - 1]
+        return fits(value, width)
+
+    def record_fits(self, record):
+        """Whether all values fit their fields."""
+        return all(self.value_fits(number, value) for number, value in enumerate(record, 1))
+
+
+KINDS = (Kind(23, 2, TYP_23_REVISION_2), Kind(22, 1, TYP_22_REVISION_1),
+         Kind(22, 2, TYP_22_REVISION_2), Kind(22, 3, TYP_22_REVISION_3))
+
+
+def kind_of(typ, revision, entry=0):
+    """The kind on the lists; 22 if there is none."""
+    for kind in KINDS:
+        if (kind.typ, kind.revision) == (typ, revision):
+            return kind
+    raise Refused(22, entry)
 
 
 def decode(layout, data):
@@ -83,27 +207,16 @@ def value_of(layout, values, name):
     return values[names.index(name)]
 
 
-def ticket_value_fits(number, value):
-    """Whether a value fits the width of ticket field `number` (1 to 22)."""
-    _, _, width = TICKET[number - 1]
-    return fits(value, width)
+def decode_ticket(kind, data):
+    """The list's values from the bytes that hold bit 16 to the list's end."""
+    return [read_bits(data, first - TICKET_FIRST_BIT, width) for _, first, width in kind.fields]
 
 
-def record_fits(record):
-    """Whether all twenty-two values fit their fields."""
-    return all(ticket_value_fits(number, value) for number, value in enumerate(record, 1))
-
-
-def decode_ticket(data):
-    """The twenty-two values from the twenty-seven bytes that hold bits 16 to 231."""
-    return [read_bits(data, first - TICKET_FIRST_BIT, width) for _, first, width in TICKET]
-
-
-def encode_ticket(record):
-    """The twenty-seven bytes of bits 16 to 231; 26 if a value is too wide."""
-    if not record_fits(record):
+def encode_ticket(kind, record):
+    """The bytes of bit 16 to the list's end; 26 if a value is too wide."""
+    if not kind.record_fits(record):
         raise Refused(26)
-    data = bytearray((TICKET_END_BIT - TICKET_FIRST_BIT) // 8)
-    for (_, first, width), value in zip(TICKET, record):
+    data = bytearray(kind.end_byte() - TICKET_FIRST_BIT // 8)
+    for (_, first, width), value in zip(kind.fields, record):
         write_bits(data, first - TICKET_FIRST_BIT, width, value)
     return bytes(data)

@@ -2,11 +2,9 @@
 
 from .check import HEAD_BYTES, TAIL_BYTES, open_card
 from .dates import end_of_ticket
-from .fields import (ENTRY, HEAD, HEADER, TAIL, TICKET, TICKET_END_BIT, TICKET_FIRST_BIT, decode,
-                     decode_ticket, value_of)
+from .fields import (BLOCK_BYTES, ENTRY, HEAD, HEADER, TAIL, TICKET_FIRST_BIT, decode, decode_ticket,
+                     kind_of, value_of)
 from .refusal import Refused
-
-REST_FIRST_BYTE = TICKET_END_BIT // 8
 
 
 def read_shell(image):
@@ -33,16 +31,22 @@ def require_entry(card, j):
         raise Refused(20, j)
 
 
-def require_ticket(card, j):
-    """22, then 23: what a read and a write ask of the product's form."""
+def dataset_length(product):
+    """The bytes of the dataset: IPELength in blocks of four bytes."""
+    return BLOCK_BYTES * value_of(HEADER, decode(HEADER, product[:2]), "IPELength")
+
+
+def require_kind(card, j):
+    """22: the kind of the product, TYP from its entry and the revision from its header."""
+    typ = value_of(ENTRY, decode(ENTRY, card.entry(j)), "TYP")
+    revision = value_of(HEADER, decode(HEADER, card.product(j)[:2]), "IPEFormatRevision")
+    return kind_of(typ, revision, j)
+
+
+def require_length(card, j, kind):
+    """23: the dataset holds the kind's fixed fields and lies within the product."""
     product = card.product(j)
-    header = decode(HEADER, product[:2])
-    if value_of(ENTRY, decode(ENTRY, card.entry(j)), "TYP") != 23:
-        raise Refused(22, j)
-    if value_of(HEADER, header, "IPEFormatRevision") != 2:
-        raise Refused(22, j)
-    dataset = 4 * value_of(HEADER, header, "IPELength")
-    if dataset < 32 or dataset > len(product):
+    if not kind.least_dataset() <= dataset_length(product) <= len(product):
         raise Refused(23, j)
 
 
@@ -61,33 +65,30 @@ def read_chain(image, j):
 
 
 def checked_ticket(image, j, lent):
-    """The card and the product, after 20, 21, 22 and 23."""
+    """The card, the product and its kind, after 20, 21, 22 and 23."""
     card = open_card(image)
     require_entry(card, j)
     product = card.product(j)
     if lent < len(product):
         raise Refused(21, j)
-    require_ticket(card, j)
-    return card, product
+    kind = require_kind(card, j)
+    require_length(card, j, kind)
+    return card, product, kind
 
 
 def read_ticket(image, j, buffer):
-    """Copy the product; give header, record, end of the ticket, mark and number of sectors."""
-    card, product = checked_ticket(image, j, len(buffer))
+    """Copy the product; give TYP, header, record, end of the ticket, mark and number of sectors."""
+    card, product, kind = checked_ticket(image, j, len(buffer))
     buffer[:len(product)] = product
-    record = decode_ticket(product[TICKET_FIRST_BIT // 8:TICKET_END_BIT // 8])
+    record = decode_ticket(kind, product[TICKET_FIRST_BIT // 8:kind.end_byte()])
     exp = value_of(ENTRY, decode(ENTRY, card.entry(j)), "EXP")
     sectors, mark = card.chains[j]
-    end = end_of_ticket(exp, value_of(TICKET, record, "ExpiryTime"))
-    return decode(HEADER, product[:2]) + record + [end, mark, len(sectors)]
+    end = end_of_ticket(exp, value_of(kind.fields, record, "ExpiryTime"))
+    return [kind.typ] + decode(HEADER, product[:2]) + record + [end, mark, len(sectors)]
 
 
 def read_rest(image, j, buffer):
-    """Copy the product likewise; give the part from byte 29 to the dataset's end."""
-    try:
-        _, product = checked_ticket(image, j, len(buffer))
-    except Refused:
-        return b""
+    """Copy the product likewise; give the part after the fixed fields up to the dataset's end, which may be empty."""
+    _, product, kind = checked_ticket(image, j, len(buffer))
     buffer[:len(product)] = product
-    dataset = 4 * value_of(HEADER, decode(HEADER, product[:2]), "IPELength")
-    return bytes(buffer[REST_FIRST_BYTE:dataset])
+    return bytes(buffer[kind.end_byte():dataset_length(product)])

@@ -1,20 +1,21 @@
-"""Steps on a record of twenty-two values, apart from any image."""
+"""Steps on a record of one kind's values, apart from any image."""
 
-from .fields import TICKET, ticket_value_fits
+from .fields import kind_of
 from .refusal import Refused
 
 
-def set_field(record, number, value):
-    """The record with one field changed; 25, then 26, both of entry 0."""
-    if not 1 <= number <= len(TICKET):
+def set_field(typ, revision, record, number, value):
+    """The record with one field changed; 22, 25, then 26, all of entry 0."""
+    kind = kind_of(typ, revision)
+    if not kind.has_field(number):
         raise Refused(25)
-    if not ticket_value_fits(number, value):
+    if not kind.value_fits(number, value):
         raise Refused(26)
     return record[:number - 1] + [value] + record[number:]
 
 
-def field_value(record, number):
-    """The value of one field; 25 of entry 0."""
-    if not 1 <= number <= len(TICKET):
+def field_value(typ, revision, record, number):
+    """The value of one field; 22, then 25, both of entry 0."""
+    if not kind_of(typ, revision).has_field(number):
         raise Refused(25)
     return record[number - 1]

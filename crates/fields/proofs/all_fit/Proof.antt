@@ -4,7 +4,8 @@ use Prim.Native.Nat.{_-_, _≤_}
 use native.Mathlib.Omega.{arith}
 use borrow.Author.Needs.{needs}
 use Rattle.fields.specs.Lists.{listOf}
-use Rattle.fields.proofs.Loops.{fitTo, fit-start, fit-more, fit-end}
+use Rattle.fields.specs.Padded.{fitTo}
+use Rattle.fields.proofs.Loops.{fit-start, fit-more, fit-end}
 use Rattle.fields.proofs.all_fit.Statement.{statement}
 use Rattle.fields.proofs.all_fit.Tie as tie
 

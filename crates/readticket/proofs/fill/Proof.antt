@@ -1,7 +1,8 @@
--- `readticket::fill` meets its contract: `take` has filled the buffer and tells the dataset's end. Assumes nothing.
-use mathlib.Core.Path.{sym, _∙_}
+-- `readticket::fill` meets its contract: `take` has filled the buffer and tells the kind and the header. Assumes nothing.
+use mathlib.Core.Path.{refl, sym, _∙_}
+use native.Mathlib.Omega.{arith}
 use Rattle.readticket.proofs.Taken.{judged-taken, judged-refused}
-use Rattle.readticket.proofs.TwoCalls.{fill-taken, fill-refused}
+use Rattle.readticket.proofs.TwoCalls.{blocks-below, fill-taken, fill-refused}
 use borrow.Author.Needs.{needs}
 use Rattle.readticket.proofs.fill.Statement.{statement}
 use Rattle.readticket.proofs.fill.Tie as tie
@@ -12,6 +13,12 @@ take-requires c κs = search needs
 enum-known-sound : tie.Need-enum-known-sound
 enum-known-sound c = search needs
 
+mul-end : tie.Need-mul-end
+mul-end c = omega (arith, blocks-below _ _ _ (judged-taken _ _ _ _ (sym (c .before .before .before .before .before .take .ensures .0) ∙ c .before .sound .given .1)))
+
+rest-requires : tie.Need-rest-requires
+rest-requires c κs = search needs
+
 enum-known-number : tie.Need-enum-known-number
 enum-known-number c = search needs
 
@@ -20,8 +27,8 @@ same-length c = search needs
 
 returns : tie.Need-returns
 returns c =
-    let e = c .before .before .before .before .before .take .ensures in
-    (fill-taken _ _ _ (judged-taken _ _ _ _ (sym (e .0) ∙ c .before .sound .given .1)), e .1)
+    let e = c .before .before .before .before .before .before .take .ensures in
+    (fill-taken _ _ _ (judged-taken _ _ _ _ (sym (e .0) ∙ c .before .before .sound .given .1)) (c .rest .ensures) refl, e .1)
 
 same-length-2 : tie.Need-same-length-2
 same-length-2 c = search needs
@@ -37,6 +44,8 @@ fill-spec =
     (tie.spec
     take-requires
     enum-known-sound
+    mul-end
+    rest-requires
     enum-known-number
     same-length
     returns

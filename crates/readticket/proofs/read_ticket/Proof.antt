@@ -1,17 +1,11 @@
--- `readticket::read_ticket` meets its contract: `take` has filled the buffer, and what is read is read of the first sector. Assumes nothing.
-use mathlib.Core.Path.{_≡_, sym, ap, _∙_}
+-- `readticket::read_ticket` meets its contract: `take` has filled the buffer, and what is read is read of the first sector, by its kind. Assumes nothing.
+use mathlib.Core.Path.{sym, _∙_}
 use native.Mathlib.Omega.{arith}
 use Prim.Native.Nat.{_+_, _≤_}
 use lib.ListN.{length}
-use Rattle.fields.specs.Fields.{fields}
-use Rattle.fields.specs.Lists.{listOf}
-use Rattle.ticket.specs.declared.Record.{Record}
-use Rattle.ticket.specs.Kind.{kind}
-use Rattle.image.specs.Image.{product}
 use Rattle.image.specs.Shape.{sectorPlace}
-use Rattle.image.proofs.Places.{from-length}
 use Rattle.readticket.proofs.Taken.{Taking, judged-taken, judged-refused}
-use Rattle.readticket.proofs.TwoCalls.{start-within, start-fields, day-below, time-below, ends-at, read-taken, read-refused}
+use Rattle.readticket.proofs.TwoCalls.{start-within, first-room, told-asks, told-read, read-refused}
 use borrow.Author.Needs.{needs}
 use Rattle.readticket.proofs.read_ticket.Statement.{statement}
 use Rattle.readticket.proofs.read_ticket.Tie as tie
@@ -46,28 +40,15 @@ part-first-start c = omega (arith, c .sector-at .ensures, within (c .before))
 part-first-end : tie.Need-part-first-end
 part-first-end c = search needs
 
-record-in-requires : tie.Need-record-in-requires
-record-in-requires c κs = simp from-length (omega (arith, c .before .sector-at .ensures, within (c .before .before)))
+fields-of-requires : tie.Need-fields-of-requires
+fields-of-requires c κs =
+    let s = c .before in
+    first-room _ _ _ (taking (s .before .before .before)) (s .before .shape-of .ensures) (s .sector-at .ensures)
 
--- the values are the product's
-valued : (c : tie.After-record-in) → (let o = c .before .before .before .before .before .before .before .before .before .before .before .before .before in c .record-in .result .values ≡ fields (product (o .args .image .now) (o .args .entry)) (listOf kind))
-valued c =
+told-requires : tie.Need-told-requires
+told-requires c κs =
     let s = c .before .before in
-    let g = s .before in
-    rw (s .sector-at .ensures) at (ap (λ (r : Record). r .values) (c .record-in .ensures)) ∙ start-fields _ _ _ (taking (g .before .before)) (g .shape-of .ensures)
-
-array-read-end : tie.Need-array-read-end
-array-read-end c = search needs
-
-end-requires : tie.Need-end-requires
-end-requires c κs =
-    let o = c .before .before .before .before .before .before in
-    let d = day-below _ _ _ (taking o) in
-    let m = time-below _ _ _ (taking o) (valued (c .before)) in
-    (omega (arith, d, m), omega (arith, d, m))
-
-cast-t17 : tie.Need-cast-t17
-cast-t17 c = search needs
+    told-asks _ _ _ (taking (s .before .before .before)) (s .before .shape-of .ensures) (s .sector-at .ensures) (c .fields-of .ensures)
 
 enum-known-n : tie.Need-enum-known-n
 enum-known-n c = search needs
@@ -77,10 +58,11 @@ same-length c = search needs
 
 returns : tie.Need-returns
 returns c =
-    let v = c .before .before .before in
-    let o = v .before .before .before .before .before in
-    let k = taking o in
-    (read-taken _ _ _ k (valued v) (c .before .end .ensures ∙ ends-at _ _ _ k (valued v)), o .before .before .before .before .take .ensures .1)
+    let s = c .before .before .before in
+    let o = s .before .before .before in (
+      c .told .ensures ∙ told-read _ _ _ (taking o) (s .before .shape-of .ensures) (s .sector-at .ensures) (c .before .fields-of .ensures),
+      o .before .before .before .before .take .ensures .1,
+    )
 
 same-length-2 : tie.Need-same-length-2
 same-length-2 c = search needs
@@ -101,10 +83,8 @@ read-ticket-spec =
     sub-first
     part-first-start
     part-first-end
-    record-in-requires
-    array-read-end
-    end-requires
-    cast-t17
+    fields-of-requires
+    told-requires
     enum-known-n
     same-length
     returns

@@ -1,4 +1,4 @@
--- `readticket::rest` meets its contract: what `fill` answered tells the end, and what the buffer holds. Assumes nothing.
+-- `readticket::rest` meets its contract: what `fill` answered tells where the part lies, and what the buffer holds. Assumes nothing.
 use mathlib.Core.Path.{refl, ap}
 use native.Mathlib.Omega.{arith}
 use lib.ListN.{length}
@@ -7,8 +7,8 @@ use borrow.Author.Needs.{needs}
 use Rattle.readticket.proofs.rest.Statement.{statement}
 use Rattle.readticket.proofs.rest.Tie as tie
 
--- the end that `fill` answered
-ending : (c : tie.Else1) → (let a = c .before .before .before .before .before .before .before .before .args in Ending (a .image .now) (a .entry) (length (a .buffer .now)) (c .before .before .before .before .fill .result .end))
+-- the part's two ends that `fill` answered
+ending : (c : tie.Else1) → (let a = c .before .before .before .before .before .before .before .before .args in let d = c .before .before .before .before .fill .result in Ending (a .image .now) (a .entry) (length (a .buffer .now)) (d .from) (d .end))
 ending c = fill-ends _ _ _ (c .before .before .before .before .fill .ensures .0) (c .if1 .left)
 
 fill-requires : tie.Need-fill-requires
@@ -28,27 +28,23 @@ returns c =
     let s = fill-barred _ _ _ (c .before .before .before .before .before .fill .ensures .0) (c .before .if1 .taken) in
     rw (rest-none _ _ _ s, rest-nowhere _ _ _ s) (refl, (refl, refl))
 
-rest-requires : tie.Need-rest-requires
-rest-requires c κs = search needs
-
 sub-result-2 : tie.Need-sub-result-2
-sub-result-2 c = omega (arith, c .rest .ensures, ending (c .before) .least)
+sub-result-2 c = ending c .ordered
 
 part-buffer-start-2 : tie.Need-part-buffer-start-2
-part-buffer-start-2 c = omega (arith, c .rest .ensures, ending (c .before) .least)
+part-buffer-start-2 c = ending c .ordered
 
 part-buffer-end-2 : tie.Need-part-buffer-end-2
 part-buffer-end-2 c =
-    let k = ending (c .before) in
-    let a = c .before .before .before .before .before .before .before .before .before .args in
-    omega (arith, k .in-product, k .in-room, ap length (c .before .before .before .before .before .fill .ensures .1), after-length (a .image .now) (a .entry) (a .buffer .now) k)
+    let k = ending c in
+    let a = c .before .before .before .before .before .before .before .before .args in
+    omega (arith, k .in-product, k .in-room, ap length (c .before .before .before .before .fill .ensures .1), after-length (a .image .now) (a .entry) (a .buffer .now) k)
 
 returns-2 : tie.Need-returns-2
 returns-2 c =
-    let k = ending (c .before .before) in
-    let a = c .before .before .before .before .before .before .before .before .before .before .args in
-    let e = c .before .rest .ensures in
-    (rw (c .before .before .before .before .before .before .fill .ensures .1) (rest-part (a .image .now) (a .entry) (a .buffer .now) k _ e), (refl, rw (e, rest-from _ _ _ k)))
+    let k = ending (c .before) in
+    let a = c .before .before .before .before .before .before .before .before .before .args in
+    (rw (c .before .before .before .before .before .fill .ensures .1) (rest-part (a .image .now) (a .entry) (a .buffer .now) k), (refl, rw (rest-from _ _ _ k)))
 
 pub rest-spec : {M : Type 1} → statement M
 rest-spec =
@@ -59,7 +55,6 @@ rest-spec =
     part-buffer-start
     part-buffer-end
     returns
-    rest-requires
     sub-result-2
     part-buffer-start-2
     part-buffer-end-2

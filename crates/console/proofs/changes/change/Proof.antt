@@ -17,8 +17,8 @@ told-requires c κs = search needs
 enum-known-asked-2 : tie.Need-enum-known-asked-2
 enum-known-asked-2 c = search needs
 
-record-requires : tie.Need-record-requires
-record-requires c κs = search needs
+from-requires : tie.Need-from-requires
+from-requires c κs = search needs
 
 write-record-requires : tie.Need-write-record-requires
 write-record-requires c κs = search needs
@@ -45,7 +45,7 @@ same-length-2 : tie.Need-same-length-2
 same-length-2 c = search needs
 
 returns-2 : tie.Need-returns-2
-returns-2 c = whole (c .before .before .before .before .before .before .before .before .before .before .before .before .args .asked) _ _ _ _ _ (c .before .before .before .before .before .before .before .before .before .asked2 .given .1) (c .before .before .before .before .before .before .before .«record» .ensures) (c .before .before .before .write-record .ensures .1)
+returns-2 c = whole (c .before .before .before .before .before .before .before .before .before .before .before .args .asked) _ _ _ _ _ _ _ (c .before .before .before .before .before .before .before .before .asked2 .given .1) (c .before .before .before .before .before .before .from .ensures) (c .before .before .before .write-record .ensures .1)
 
 same-length-3 : tie.Need-same-length-3
 same-length-3 c = search needs
@@ -61,7 +61,7 @@ change-spec =
     write-field-requires
     told-requires
     enum-known-asked-2
-    record-requires
+    from-requires
     write-record-requires
     told-requires-2
     enum-known-asked-3

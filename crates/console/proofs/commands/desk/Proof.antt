@@ -7,16 +7,16 @@ use Rattle.console.proofs.commands.desk.Statement.{statement}
 use Rattle.console.proofs.commands.desk.Tie as tie
 
 returns : tie.Need-returns
-returns c = λ a b d. rw (c .match .keys1)
+returns c = λ n a b d. rw (c .match .keys1)
 
 returns-2 : tie.Need-returns-2
-returns-2 c = λ a b d. rw (c .match .keys2)
+returns-2 c = λ n a b d. rw (c .match .keys2)
 
 returns-3 : tie.Need-returns-3
 returns-3 c =
     let i = c .before .args .i in
     let r = c .match .rest in
-    λ a b d. beyond desk i a b d (past i 1 (past i 0 (omega arith) (r .0 .1)) (r .1))
+    λ n a b d. beyond desk i n a b d (past i 1 (past i 0 (omega arith) (r .0 .1)) (r .1))
 
 pub desk-spec : {M : Type 1} → statement M
 desk-spec = tie.close (tie.spec returns returns-2 returns-3)

@@ -6,9 +6,9 @@ use native.Mathlib.Omega.{arith}
 use Prim.Native.Nat.{ℕ, _*_}
 use lib.ListN.{length}
 use Rattle.bits.proofs.Laws.{field-below}
-use Rattle.ticket.specs.Checks.{formIn, extentIn}
-use Rattle.ticket.specs.declared.Form.the-variants.{Ticket}
-use Rattle.ticket.specs.declared.Extent.the-variants.{End}
+use Rattle.ticket.specs.Kind.{formIn, rowOf}
+use Rattle.ticket.specs.Checks.{extentIn}
+use Rattle.ticket.specs.declared.kinds.Form.the-variants.{Ticket}
 use Rattle.image.specs.Image.{product}
 use Rattle.image.proofs.Founds.{Finds, finds}
 use Rattle.image.proofs.Places.{size-of, size-in}
@@ -30,18 +30,15 @@ entry c = c .before .before .before .before .args .entry
 abbrev room : tie.After-found → ℕ
 room c = c .before .before .before .before .args .room
 
--- where the image's shape is known and where the product is found, where its room is enough, where its form is right, and where its end is known
+-- where the image's shape is known and where the product is found, where its room is enough, and where its kind is known
 abbrev from-shape : tie.After-enum-told2 → tie.After-shape-of
 from-shape c = c .before .before .before .before .before
 
 abbrev from-room : tie.After-enum-told2 → tie.After-found
 from-room c = from-shape c .before .before
 
-abbrev from-form : tie.After-enum-told4 → tie.After-enum-told2
+abbrev from-form : tie.After-kind → tie.After-enum-told2
 from-form c = c .before .before .before .before
-
-abbrev from-extent : tie.After-extent → tie.After-enum-told4
-from-extent c = c .before .before .before
 
 -- the entry is a product of an accepted image
 told : (c : tie.After-found) → Finds (image c) (entry c) (c .found .given .0 .0) (c .found .given .0 .1 .0)
@@ -61,14 +58,14 @@ fits c = sym (roomed (c .before .before)) ∙ c .enum-told2 .given .1
 formed : (c : tie.After-check-form) → c .check-form .result ≡ formIn (statedIn (image (from-room (c .before .before))) (entry (from-room (c .before .before))) .typ) (statedIn (image (from-room (c .before .before))) (entry (from-room (c .before .before))) .revision)
 formed c = c .check-form .ensures ∙ ap (λ (s : Stated). formIn (s .typ) (s .revision)) (c .before .stated-of .ensures)
 
-form : (c : tie.After-enum-told4) → formIn (statedIn (image (from-room (from-form c))) (entry (from-room (from-form c))) .typ) (statedIn (image (from-room (from-form c))) (entry (from-room (from-form c))) .revision) ≡ Ticket
-form c = sym (formed (c .before .before)) ∙ c .enum-told4 .given .1
+form : (c : tie.After-kind) → formIn (statedIn (image (from-room (from-form c))) (entry (from-room (from-form c))) .typ) (statedIn (image (from-room (from-form c))) (entry (from-room (from-form c))) .revision) ≡ Ticket (c .kind .given .0 .0)
+form c = sym (formed (c .before .before)) ∙ c .kind .given .1
 
-ended : (c : tie.After-check-extent) → c .check-extent .result ≡ extentIn (statedIn (image (from-room (from-form (c .before)))) (entry (from-room (from-form (c .before)))) .blocks) (length (product (image (from-room (from-form (c .before)))) (entry (from-room (from-form (c .before))))))
-ended c = c .check-extent .ensures ∙ ap₂ extentIn (ap (λ (s : Stated). s .blocks) (c .before .before .before .before .stated-of .ensures)) (sized (from-shape (from-form (c .before))))
-
-ends : (c : tie.After-extent) → extentIn (statedIn (image (from-room (from-form (from-extent c)))) (entry (from-room (from-form (from-extent c)))) .blocks) (length (product (image (from-room (from-form (from-extent c)))) (entry (from-room (from-form (from-extent c)))))) ≡ End (c .extent .given .0 .0)
-ends c = sym (ended (c .before .before)) ∙ c .extent .given .1
+ended : (c : tie.After-check-extent) → c .check-extent .result ≡ extentIn (rowOf (c .before .before .kind .given .0 .0) .layout) (statedIn (image (from-room (from-form (c .before .before)))) (entry (from-room (from-form (c .before .before)))) .blocks) (length (product (image (from-room (from-form (c .before .before)))) (entry (from-room (from-form (c .before .before))))))
+ended c =
+    let f = c .before .before in
+    c .check-extent .ensures
+    ∙ ap₂ (extentIn (rowOf (f .kind .given .0 .0) .layout)) (ap (λ (s : Stated). s .blocks) (f .before .before .before .stated-of .ensures)) (sized (from-shape (from-form f)))
 
 find-requires : tie.Need-find-requires
 find-requires c κs = search needs
@@ -121,38 +118,37 @@ stated-of-requires c κs = (from-shape c .shape-of .ensures, told (from-room c) 
 check-form-requires : tie.Need-check-form-requires
 check-form-requires c κs = search needs
 
+enum-known-kind : tie.Need-enum-known-kind
+enum-known-kind c = search needs
+
 enum-told-4 : tie.Need-enum-told-4
 enum-told-4 c = search needs
-
-enum-told-5 : tie.Need-enum-told-5
-enum-told-5 c = search needs
 
 returns-3 : tie.Need-returns-3
 returns-3 c =
     let r = c .before .before .before .before in
-    at-form _ _ _ (told (from-room r)) (fits r) (sym (formed (c .before .before)) ∙ c .enum-told5 .given .1)
+    at-form _ _ _ (told (from-room r)) (fits r) (sym (formed (c .before .before)) ∙ c .enum-told4 .given .1)
 
 check-extent-requires : tie.Need-check-extent-requires
-check-extent-requires c κs = rw (c .before .before .before .stated-of .ensures) (field-below _ 0 6 16 (omega arith))
+check-extent-requires c κs = rw (c .before .before .before .before .stated-of .ensures) (field-below _ 0 6 16 (omega arith))
 
-enum-known-extent : tie.Need-enum-known-extent
-enum-known-extent c = search needs
+enum-told-5 : tie.Need-enum-told-5
+enum-told-5 c = search needs
 
 enum-told-6 : tie.Need-enum-told-6
 enum-told-6 c = search needs
 
 returns-4 : tie.Need-returns-4
 returns-4 c =
-    let f = c .before .before .before in
+    let f = c .before .before .before .before in
     let r = from-form f in
     at-extent _ _ _ (told (from-room r)) (fits r) (form f) (sym (ended (c .before .before)) ∙ c .enum-told6 .given .1)
 
 returns-5 : tie.Need-returns-5
 returns-5 c =
-    let x = c .before in
-    let f = from-extent x in
+    let f = c .before .before .before .before in
     let r = from-form f in
-    at-end _ _ _ (told (from-room r)) (fits r) (form f) (ends x) (f .before .before .before .stated-of .ensures) (r .before .before .before .before .mark-of .ensures)
+    at-end _ _ _ (told (from-room r)) (fits r) (form f) (sym (ended (c .before .before)) ∙ c .enum-told5 .given .1) (f .before .before .before .stated-of .ensures) (r .before .before .before .before .mark-of .ensures)
 
 pub judge-spec : {M : Type 1} → statement M
 judge-spec =
@@ -173,11 +169,11 @@ judge-spec =
     returns-2
     stated-of-requires
     check-form-requires
+    enum-known-kind
     enum-told-4
-    enum-told-5
     returns-3
     check-extent-requires
-    enum-known-extent
+    enum-told-5
     enum-told-6
     returns-4
     returns-5)

@@ -9,17 +9,17 @@ of-entry-requires c κs = search needs
 of-entry-requires-2 : tie.Need-of-entry-requires-2
 of-entry-requires-2 c κs = search needs
 
-of-product-requires : tie.Need-of-product-requires
-of-product-requires c κs = search needs
+of-header-requires : tie.Need-of-header-requires
+of-header-requires c κs = search needs
 
-of-product-requires-2 : tie.Need-of-product-requires-2
-of-product-requires-2 c κs = search needs
+of-header-requires-2 : tie.Need-of-header-requires-2
+of-header-requires-2 c κs = search needs
 
-of-product-requires-3 : tie.Need-of-product-requires-3
-of-product-requires-3 c κs = search needs
+of-header-requires-3 : tie.Need-of-header-requires-3
+of-header-requires-3 c κs = search needs
 
 returns : tie.Need-returns
-returns c = rw (c .before .before .before .before .of-entry .ensures, c .before .before .before .of-entry2 .ensures, c .before .before .of-product .ensures, c .before .of-product2 .ensures, c .of-product3 .ensures)
+returns c = rw (c .before .before .before .before .of-entry .ensures, c .before .before .before .of-entry2 .ensures, c .before .before .of-header .ensures, c .before .of-header2 .ensures, c .of-header3 .ensures)
 
 pub stated-of-spec : {M : Type 1} → statement M
 stated-of-spec =
@@ -27,7 +27,7 @@ stated-of-spec =
     (tie.spec
     of-entry-requires
     of-entry-requires-2
-    of-product-requires
-    of-product-requires-2
-    of-product-requires-3
+    of-header-requires
+    of-header-requires-2
+    of-header-requires-3
     returns)

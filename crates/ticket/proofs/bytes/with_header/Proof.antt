@@ -1,3 +1,4 @@
+-- `bytes::with_header` meets its contract: each turn puts one byte more behind the two zeros. Assumes nothing.
 use mathlib.Core.Path.{_≡_, refl}
 use mathlib.Core.List.{List, _∷_}
 use Prim.Native.Nat.{ℕ, _+_, _-_, _≤_}

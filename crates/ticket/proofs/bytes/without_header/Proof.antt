@@ -1,3 +1,4 @@
+-- `bytes::without_header` meets its contract: each turn takes one byte more from behind the header. Assumes nothing.
 use mathlib.Core.Path.{_≡_, refl}
 use Prim.Native.Nat.{_-_, _≤_}
 use native.Mathlib.Omega.{arith}
