@@ -30,6 +30,7 @@ INLINE u32 be16(const u8 *p) { u16 x; __builtin_memcpy(&x, p, 2); return BIG(16,
 INLINE u32 be32(const u8 *p) { u32 x; __builtin_memcpy(&x, p, 4); return BIG(32, x); }
 INLINE u64 be64(const u8 *p) { u64 x; __builtin_memcpy(&x, p, 8); return BIG(64, x); }
 INLINE u32 le16(const u8 *p) { u16 x; __builtin_memcpy(&x, p, 2); return LITTLE(16, x); }
+INLINE u64 le64(const u8 *p) { u64 x; __builtin_memcpy(&x, p, 8); return LITTLE(64, x); }
 INLINE u32 le32(const u8 *p) { u32 x; __builtin_memcpy(&x, p, 4); return LITTLE(32, x); }
 
 INLINE void put16(u8 *p, u32 v) { u16 x = BIG(16, (u16)v); __builtin_memcpy(p, &x, 2); }
@@ -147,11 +148,18 @@ wrong:
     return explain_chains(image + v->entries, before, v->S, v->e, psi);
 }
 
+/* The second digits of the bytes and their first ones doubled, all added up but for tens: where a double is above 9, 9 less is 1 more. */
+INLINE u32 luhn(u64 bytes)
+{
+    u64 firsts = bytes >> 4 & 0x0F0F0F0F0F0F0F0F, above = (firsts + 0x0303030303030303) >> 3 & 0x0101010101010101;
+    return ((bytes & 0x0F0F0F0F0F0F0F0F) + 2 * firsts + above) * 0x0101010101010101 >> 56;
+}
+
 /* The check in stages, each ending in a call of the next, so that each has the registers to itself. 10 and 11, where Ψ is 8 and where it is less: */
 STAGE u32 check_chains_of_bytes(const u8 *image, u64 want, struct view *v) { return walk_chains(image, want, v, 1); }
 STAGE u32 check_chains(const u8 *image, u64 want, struct view *v) { return walk_chains(image, want, v, 0); }
 
-/* 7, 8, 9: one pass over the dataset, twenty bytes, padding and the last two. */
+/* 7, 8, 12, 9: one pass over the dataset, twenty bytes, padding and the last two. */
 STAGE u32 check_data(const u8 *image, u64 want, struct view *v)
 {
     const u8 *p = image + 4, *last = p + p[0] - 4;
@@ -168,10 +176,13 @@ STAGE u32 check_data(const u8 *image, u64 want, struct view *v)
     padding |= le16(p);
     REFUSE((crc_half(r, p) ^ 0xFFFF) != be16(p + 2), 7);
 
-    /* IIN is bytes 2 to 4 of the shell, ISSN and CHD 7 to 10: a digit above 9 has its 8 and its 4 or 2 set */
-    u64 d = (u64)le32(image + 5) << 32 | le32(image + 11);
-    REFUSE((d & (d << 1 | d << 2) & 0x8888880088888888) != 0, 8);
+    /* the ISRN is bytes 2 to 10 of the shell, two digits to a byte: one above 9 has its 8 and its 4 or 2 set */
+    u64 d = le64(image + 7);
+    u32 first = image[6];
+    REFUSE((d & (d << 1 | d << 2) & 0x8888888888888888) != 0, 8);
+    REFUSE((first & (first << 1 | first << 2) & 0x88) != 0, 8);
     REFUSE(padding != 0, 8);
+    REFUSE((luhn(d) + luhn(first)) % 10 != 0, 12);
 
     u32 unused = -(v->S - 3) * v->psi & 7;
     REFUSE((image[v->before + image[23]] & ((1u << unused) - 1)) != 0, 9);
@@ -183,7 +194,7 @@ RARE u32 explain_header(const u8 *image, size_t length)
     return length < 4 || be16(image) != length ? 1 : image[2] != 1 ? 2 : image[3] > 1 ? 3 : 4;
 }
 
-/* 1 to 11 in order, as number | entry << 8; 0 if the image is accepted. */
+/* 1 to 8, 12 and 9 to 11 in order, as number | entry << 8; 0 if the image is accepted. */
 STAGE u32 validate(const u8 *image, size_t length, u64 want, struct view *v)
 {
     /* length, version 1, copy 0 or 1, in one word */
@@ -235,7 +246,7 @@ card_answer card_check(const u8 *image, size_t length)
     return (card_answer){ code & 255, code >> 8 };
 }
 
-/* 1 to 11, and 20. */
+/* 1 to 12, and 20. */
 INLINE u32 open_entry(const u8 *image, size_t length, u64 entry, struct view *v)
 {
     u32 code = validate(image, length, entry, v);
@@ -536,7 +547,7 @@ INLINE void encode_22_3(const u64 v[25], u8 out[27])
     put32(out + 23, (u32)d);
 }
 
-/* What field and record writes refuse alike, before the kind: 1 to 11, 20, 27. */
+/* What field and record writes refuse alike, before the kind: 1 to 12, 20, 27. */
 INLINE u32 open_write(const u8 *image, size_t length, u64 entry, struct view *v)
 {
     u32 code = open_entry(image, length, entry, v);

@@ -48,7 +48,7 @@ static inline void blank(size_t s, size_t b, size_t e, size_t dataset)
     table = directory + 2 + 5 * e;
     for (size_t i = 0; i < length; i++)
         image[i] = 0;
-    uint8_t head[24] = { length >> 8, length & 255, 1, 0, dataset, 1, 0x63, 0x35, 0x97, 0x12, 0x34, 0x12, 0x34, 0x56, 0x78, 1, 1, 1, 0, 100, b, s, e, table_size };
+    uint8_t head[24] = { length >> 8, length & 255, 1, 0, dataset, 1, 0x63, 0x35, 0x97, 0x12, 0x34, 0x12, 0x34, 0x56, 0x77, 1, 1, 1, 0, 100, b, s, e, table_size };
     for (size_t i = 0; i < 24; i++)
         image[i] = head[i];
     unsigned sum = crc(image + 4, dataset - 2);

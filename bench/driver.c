@@ -108,7 +108,7 @@ static void put_field(size_t j, size_t kind, size_t field, uint64_t value)
 static void damage(void)
 {
     for (size_t n = any(4); n-- > 0;) {
-        size_t what = any(12), j = 1 + any(entries), typ, revision;
+        size_t what = any(13), j = 1 + any(entries), typ, revision;
         if (what < 5)
             element(1 + any(sectors - 3), any(3) ? any(1 << psi) : sectors - 1 - any(2));
         if (what == 5)
@@ -129,6 +129,10 @@ static void damage(void)
         }
         if (what == 11) /* beside the kinds that there are, and beside their lengths */
             product(j, 21 + any(4), any(5), 6 + any(4));
+        if (what == 12) { /* a digit of the ISRN */
+            size_t k = any(18), shift = k % 2 ? 0 : 4;
+            image[6 + k / 2] = (image[6 + k / 2] & 0xF0 >> shift) | any(10) << shift;
+        }
     }
     size_t dataset = image[4] & 0xFC;
     if (any(4) && dataset >= 4) {

@@ -20,7 +20,7 @@
    the worst cards:
    card_check 720, card_read_shell 944, card_read_directory 736, card_read_table 1232, card_read_entry 736, card_read_chain 1248,
    card_read_ticket 1152, card_fill 912, card_write_field 752, card_write_record 784, card_mark 736, card_touched 864, card_record_set 1024,
-   card_record_value 264, card_encode_shell 200, card_decode_shell 272, card_encode_entry 56, card_decode_entry 8, card_encode_head 8,
+   card_record_value 264, card_encode_shell 216, card_decode_shell 272, card_encode_entry 56, card_decode_entry 8, card_encode_head 8,
    card_decode_head 8, card_encode_tail 40, card_decode_tail 8, card_encode_header 8, card_decode_header 8, card_encode_ticket 464,
    card_decode_ticket 432, card_encode_table 104, card_decode_table 568, card_date_of 48, card_stamp_of 80. */
 #ifndef CARD_H
@@ -120,7 +120,7 @@ typedef struct { uint64_t values[3]; } card_head_values;
 typedef struct { uint64_t values[4]; } card_tail_values;
 typedef struct { size_t number, entry; card_record next; } card_decoded;
 
-/* Whether the image is accepted: 0, or 1 to 11. */
+/* Whether the image is accepted: 0, or 1 to 12. */
 card_answer card_check(const uint8_t *image, size_t length);
 
 /* Reads. 20: no such product. */
@@ -152,7 +152,7 @@ card_answer card_touched(const uint8_t *before, size_t before_length, const uint
 card_changed card_record_set(uint64_t typ, uint64_t revision, const uint64_t values[25], size_t field, uint64_t value);
 card_value card_record_value(uint64_t typ, uint64_t revision, const uint64_t values[25], size_t field);
 
-/* The shell's dataset, with zero padding and SECR, into a lent buffer: 26, 5, 8, 21. Later bytes stay. */
+/* The shell's dataset, with zero padding and SECR, into a lent buffer: 26, 5, 8, 12, 21. Later bytes stay. */
 card_answer card_encode_shell(const uint64_t values[16], uint8_t *out, size_t size);
 card_shell_values card_decode_shell(const uint8_t bytes[20]);
 

@@ -79,7 +79,7 @@ module _ (c : List ℕ) (fits : e# c ≤ S c - 3) where
   unfolding sharesAt
   so-shares = products.so-shares tested (element c)
 
--- ---- the rules 1 to 9
+-- ---- the rules 1 to 8, 12 and 9
 
 pub numbered : (c : List ℕ) → Numbered (rules c)
 unfolding rules
@@ -141,10 +141,12 @@ kept-facts c k b s =
       whole = k10 .1 .1 .1 .0;
       checksum = k10 .1 .1 .1 .1 .0;
       iin = k15 .0;
-      issn = k15 .1 .0;
-      chd = k15 .1 .1 .0;
-      shell-padding = shell-zeros c g .0 (k15 .1 .1 .1 .0);
-      table-padding = table-zeros c g .0 (k15 .1 .1 .1 .1 .0);
+      oid = k15 .1 .0;
+      issn = k15 .1 .1 .0;
+      chd = k15 .1 .1 .1 .0;
+      shell-padding = shell-zeros c g .0 (k15 .1 .1 .1 .1 .0);
+      check-digit = k15 .1 .1 .1 .1 .1 .0;
+      table-padding = table-zeros c g .0 (k15 .1 .1 .1 .1 .1 .1 .0);
       chained = products.chained-none t (element c) .1 b;
       disjoint = products.disjoint-none t (element c) .1 s;
     }
@@ -153,7 +155,7 @@ pub facts-kept : (c : List ℕ) → Facts c → Kept (rules c)
 unfolding rules dataset
 facts-kept c o =
     let g = facts-bounds c o in
-    (o .head, (o .length-stated, (o .version-one, (o .copy-in-force, (o .shell-there, (o .bit-map-zero, (o .dataset-least, (o .sectors-least, (o .size-least, (o .entries, (o .table-bytes, (o .directory-fits, (o .dataset-fits, (o .whole, (o .checksum, (o .iin, (o .issn, (o .chd, (shell-zeros c g .1 (o .shell-padding), (table-zeros c g .1 (o .table-padding), tt))))))))))))))))))))
+    (o .head, (o .length-stated, (o .version-one, (o .copy-in-force, (o .shell-there, (o .bit-map-zero, (o .dataset-least, (o .sectors-least, (o .size-least, (o .entries, (o .table-bytes, (o .directory-fits, (o .dataset-fits, (o .whole, (o .checksum, (o .iin, (o .oid, (o .issn, (o .chd, (shell-zeros c g .1 (o .shell-padding), (o .check-digit, (table-zeros c g .1 (o .table-padding), tt))))))))))))))))))))))
 
 -- no product of an acceptable image is broken, and none shares with a lower one
 module _ (c : List ℕ) (o : Facts c) where

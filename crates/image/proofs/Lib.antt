@@ -15,3 +15,5 @@ pub mod Places
 pub mod Stays
 pub mod Founds
 pub mod Asked
+pub mod Isrn
+pub mod Mistyped

@@ -102,8 +102,10 @@ module _ {c d : List ℕ} {l m k : ℕ} (o : Facts c) (q : Same c d l) (old : En
     whole = rw (q .length-same, q .S-same, q .B-same) (o .whole);
     checksum = rw (q .SECR-same, q .before-secr-same) (o .checksum);
     iin = rw (q .values-same) (o .iin);
+    oid = rw (q .values-same) (o .oid);
     issn = rw (q .values-same) (o .issn);
     chd = rw (q .values-same) (o .chd);
+    check-digit = rw (q .values-same) (o .check-digit);
     shell-padding = λ i a z. let y = q .dataset-same in q .shell-bits-same i (omega (arith, o .dataset-fits)) ∙ o .shell-padding i a (omega arith);
     table-padding = λ i a z. let x = (rw (q .table-same, q .S-same) at a) in let y = (rw (q .table-same, q .SCTL-same) at z) in q .padding-bits-same i x y ∙ o .table-padding i x y;
     chained = chained-there;

@@ -1,4 +1,4 @@
--- The rules 1 to 9 are judged in three parts, one after the other, and the number is that of the first part that has one. Assumes nothing.
+-- The rules 1 to 9 and 12 are judged in three parts, one after the other, and the number is that of the first part that has one. Assumes nothing.
 use mathlib.Core.Path.{_≡_, refl, sym, ap, _∙_}
 use mathlib.Core.Logic.{_≢_}
 use mathlib.Core.List.{List, _++_}

@@ -1,4 +1,4 @@
--- The verdict from its parts: the number by the rules 1 to 9, and then the lowest broken chain and the lowest shared sector. Assumes nothing.
+-- The verdict from its parts: the number by the rules 1 to 9 and 12, and then the lowest broken chain and the lowest shared sector. Assumes nothing.
 use mathlib.Core.Path.{_≡_, refl}
 use mathlib.Core.Logic.{_≢_}
 use mathlib.Core.List.{List, [], _∷_, _++_}
@@ -19,7 +19,7 @@ kept-split [] ss k = (tt, k)
 kept-split (r ∷ rs) ss k = let t = kept-split rs ss (k .1) in ((k .0, t .0), t .1)
 
 module _ (c : List ℕ) {n : ℕ} (e : n ≡ first (rules c)) where
-  -- refused by the rules 1 to 9, that is the verdict
+  -- refused by the rules 1 to 9 and 12, that is the verdict
   pub ruled-out : n ≢ 0 → verdict c ≡ record { number = n; entry = 0 }
   unfolding verdict
   ruled-out h = rw (← e) (go n h)

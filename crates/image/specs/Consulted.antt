@@ -1,4 +1,4 @@
--- An annex: how many elements of the chain table a check consults, once the rules 1 to 9 are kept. No contract cites it. Assumes nothing.
+-- An annex: how many elements of the chain table a check consults, once the rules 1 to 9 and 12 are kept. No contract cites it. Assumes nothing.
 use mathlib.Core.Bool.{Bool, not, _||_}
 use mathlib.Core.List.{List}
 use Prim.Native.Nat.{ℕ}

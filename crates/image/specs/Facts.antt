@@ -1,19 +1,17 @@
 -- An annex: what an acceptable image obeys, each rule by a name of its own, as the proofs use it. It is the same as `Obeys` (Exact). Assumes nothing.
 use mathlib.Core.Path.{_≡_}
 use mathlib.Core.List.{List}
-use Prim.Native.Nat.{ℕ, _+_, _-_, _*_, _/_, _%_, _^_, _≤_, _<_}
+use Prim.Native.Nat.{ℕ, _+_, _-_, _*_, _%_, _≤_, _<_}
 use lib.ListN.{length, drop}
 use Rattle.bits.specs.Bits.{bit}
 use Rattle.chains.specs.Products as products
 use Rattle.chains.specs.Psi.{Ψ, tableBytes}
 use Rattle.crc.specs.Crc.{crc}
-use Rattle.shell.specs.Shell.{ShellBitMap, IIN, ISSN, CHD}
-use Rattle.image.specs.Image.{stated, version, copy, shellValues, dataset, B, S, e#, SCTL, SECR, beforeSECR, tableAt, element}
+use Rattle.digits.specs.Digits.{decimal, luhn}
+use Rattle.rules.specs.Claim.{Means}
+use Rattle.shell.specs.Shell.{ShellBitMap, IIN, OID, ISSN, CHD}
+use Rattle.image.specs.Image.{stated, version, copy, shellValues, isrn, dataset, B, S, e#, SCTL, SECR, beforeSECR, tableAt, element}
 use Rattle.image.specs.Obeys.{IsProduct}
-
--- each of the n digits of four bits of which v is made is at most 9
-abbrev pub Digits : ℕ → ℕ → Type 0
-Digits n v = (i : ℕ) → i < n → v / 2 ^ (4 * i) % 16 ≤ 9
 
 -- every bit of l from bit a up to bit z is 0
 abbrev pub Zeros : List ℕ → ℕ → ℕ → Type 0
@@ -41,10 +39,13 @@ pub record Facts (c : List ℕ) : Type 0 where
   -- 7
   pub checksum : SECR c ≡ crc (beforeSECR c)
   -- 8: the digits, and the shell's padding from byte 20 up to the checksum
-  pub iin : Digits 6 (IIN (shellValues c))
-  pub issn : Digits 7 (ISSN (shellValues c))
-  pub chd : Digits 1 (CHD (shellValues c))
+  pub iin : Means (decimal 6 (IIN (shellValues c)))
+  pub oid : Means (decimal 4 (OID (shellValues c)))
+  pub issn : Means (decimal 7 (ISSN (shellValues c)))
+  pub chd : Means (decimal 1 (CHD (shellValues c)))
   pub shell-padding : Zeros (drop 4 c) 160 (8 * (dataset c - 2))
+  -- 12: CHD is the check digit of the seventeen digits before it
+  pub check-digit : luhn (isrn c) % 10 ≡ 0
   -- 9: the bits after the last element, to the end of the table
   pub table-padding : Zeros c (8 * tableAt c + Ψ (S c) * (S c - 3)) (8 * (tableAt c + SCTL c))
   -- 10: every product has a chain
@@ -52,7 +53,7 @@ pub record Facts (c : List ℕ) : Type 0 where
   -- 11: no two products have a sector in common
   pub disjoint : products.Disjoint (IsProduct c) (element c) (S c)
 
--- entry j is a product of an acceptable image: none of 1 to 11 and 20 holds
+-- entry j is a product of an acceptable image: none of 1 to 12 and 20 holds
 pub record Present (c : List ℕ) (j : ℕ) : Type 0 where
   pub obeys : Facts c
   pub is-product : IsProduct c j

@@ -10,7 +10,7 @@ use Rattle.image.specs.Seen.{Seen, refused, missing, there, seen}
 use Rattle.image.specs.declared.Found.{Found}
 use Rattle.image.specs.declared.Found.the-variants.{There, Not}
 
--- "Image numbers 1 to 11 come first", then 20: entry 0, above e#, or empty; of a product's chain, the last sector and the number of sectors
+-- "Image numbers 1 to 11 come first", 12 among them, then 20: entry 0, above e#, or empty; of a product's chain, the last sector and the number of sectors
 abbrev pub foundIn : Seen → List ℕ → ℕ → Found
 foundIn (refused n e) c j = Not n e
 foundIn missing c j = Not 20 j

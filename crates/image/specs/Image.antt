@@ -42,6 +42,9 @@ e# c = shell.entryCount (shellValues c)
 unfoldable pub SCTL : List ℕ → ℕ
 SCTL c = shell.tableLength (shellValues c)
 
+abbrev pub isrn : List ℕ → List ℕ  -- the eighteen digits of the ISRN, from the right
+isrn c = shell.ISRN (shellValues c)
+
 unfoldable pub shellPad : List ℕ → ℕ  -- the padding up to the checksum, as one number
 shellPad c = shell.padding (drop 4 c) (dataset c)
 

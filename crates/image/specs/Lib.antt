@@ -11,3 +11,4 @@ pub mod Bounds
 pub mod Shape
 pub mod Found
 pub mod Consulted
+pub mod Mistyped

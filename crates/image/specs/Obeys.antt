@@ -21,7 +21,7 @@ Broken c j = chain.Broken (IsProduct c) (element c) (S c) j
 abbrev pub Shares : List ℕ → ℕ → Type 0  -- 11: the chain of product k has a sector in common with that of a lower one
 Shares c k = chain.Shares (IsProduct c) (element c) (S c) k
 
--- the rules 1 to 9 are kept, no chain is broken, and no two chains have a sector in common
+-- the rules 1 to 9 and 12 are kept, no chain is broken, and no two chains have a sector in common
 pub record Obeys (c : List ℕ) : Type 0 where
   pub kept : Kept (rules c)
   pub none-broken : (j : ℕ) → Broken c j → ⊥
@@ -41,7 +41,7 @@ pub data Says (c : List ℕ) : ℕ → ℕ → Type 0 where
 
 -- a call on entry j that has these rules for its product gives the number n, with the entry e: "20 to 28 name the entry asked for"
 pub data Gives (c : List ℕ) (j : ℕ) (rs : Product → List Rule) : ℕ → ℕ → Type 0 where
-  own : {n e : ℕ} → 1 ≤ n → Says c n e → Gives c j rs n e  -- 1 to 11 come first
+  own : {n e : ℕ} → 1 ≤ n → Says c n e → Gives c j rs n e  -- 1 to 12 come first
   no-product : Obeys c → (IsProduct c j → ⊥) → Gives c j rs 20 j  -- entry 0, above e#, or empty
   against : {n : ℕ} → Obeys c → IsProduct c j → Fails (rs (productAt c j)) n → Gives c j rs n j
   taken : Obeys c → IsProduct c j → Kept (rs (productAt c j)) → Gives c j rs 0 0

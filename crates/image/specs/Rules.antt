@@ -1,11 +1,11 @@
--- The rules of document 01, "Numbers given back", in its order; the causes of one number stand left to right as there. Assumes nothing.
+-- The rules of document 01, "Numbers given back", in its order as request T-03 changes it; the causes of one number stand left to right as there. Assumes nothing.
 use Prim.Native.Nat.{ℕ, _+_, _-_, _*_}
 use mathlib.Core.List.{List, [], _∷_, _++_}
 use lib.ListN.{length}
 use Rattle.chains.specs.Psi.{tableBytes}
 use Rattle.crc.specs.Crc.{crc}
 use Rattle.rules.specs.Claim.{_≡?_, _≤?_, _and_, Rule, rule}
-use Rattle.shell.specs.Shell.{ShellBitMap, IIN, ISSN, CHD, formRules, digitRules}
+use Rattle.shell.specs.Shell.{ShellBitMap, formRules, digitRules, checkDigitRule}
 use Rattle.image.specs.Image.{stated, version, copy, shellValues, dataset, B, S, e#, SCTL, shellPad, SECR, beforeSECR, tablePad}
 
 abbrev pub headRules : List ℕ → List Rule  -- the rows 1 to 4
@@ -29,13 +29,14 @@ sizeRules c =
     ∷ rule 6 (length c ≡? 4 + S c * B c)
     ∷ [])
 
-abbrev pub contentRules : List ℕ → List Rule  -- the rows 7 to 9; the digits of 8 are the shell's own
+abbrev pub contentRules : List ℕ → List Rule  -- the rows 7, 8, 12 and 9; the digits of 8, and 12, are the shell's own
 contentRules c =
     rule 7 (SECR c ≡? crc (beforeSECR c))
-    ∷ (digitRules (IIN (shellValues c)) (ISSN (shellValues c)) (CHD (shellValues c))
+    ∷ (digitRules (shellValues c)
     ++ (rule 8 (shellPad c ≡? 0)
+    ∷ checkDigitRule (shellValues c)
     ∷ rule 9 (tablePad c ≡? 0)
     ∷ []))
 
-unfoldable pub rules : List ℕ → List Rule  -- numbers 1 to 9
+unfoldable pub rules : List ℕ → List Rule  -- numbers 1 to 8, 12 and 9
 rules c = headRules c ++ (sizeRules c ++ contentRules c)

@@ -29,6 +29,6 @@ judged zero (suc j) k = record { number = 10; entry = suc j }
 judged zero zero (suc k) = record { number = 11; entry = suc k }
 judged zero zero zero = record { number = 0; entry = 0 }
 
--- the first of the rules 1 to 9 that fails; then the lowest broken; then the lowest that shares with a lower one
+-- the first of the rules 1 to 9 and 12 that fails; then the lowest broken; then the lowest that shares with a lower one
 unfoldable pub verdict : List ℕ → Answer
 verdict c = judged (first (rules c)) (lowest (e# c) (brokenAt c)) (lowest (e# c) (sharesAt c))

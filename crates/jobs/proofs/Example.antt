@@ -13,6 +13,7 @@ use Rattle.chains.specs.Walk.{link, member, walkOn}
 use Rattle.chains.specs.Psi.{Ψ, tableBytes}
 use Rattle.chains.specs.Products as products
 use Rattle.crc.specs.Crc.{clock, clocks, register, crc}
+use Rattle.digits.specs.Digits.{digitsOf, luhn}
 use Rattle.rules.specs.First.{all, first}
 use Rattle.rules.specs.Lowest.{lowest}
 use Rattle.ticket.specs.Kind.{formIn}
@@ -35,8 +36,8 @@ use Rattle.jobs.proofs.Jobs.{jobs-mixed}
 unfoldable pub image : ℕ → List ℕ
 image a =
     0x00 ∷ 0xCA ∷ 1 ∷ 0
-    ∷ 0x18 ∷ 0x01 ∷ 0x63 ∷ 0x35 ∷ 0x97 ∷ 0x12 ∷ 0x34 ∷ 0x12 ∷ 0x34 ∷ 0x56 ∷ 0x78 ∷ 0x01
-    ∷ 0x00 ∷ 0x00 ∷ 0x00 ∷ 0x64 ∷ 0x21 ∷ 0x06 ∷ 0x03 ∷ 0x02 ∷ 0x00 ∷ 0x00 ∷ 0x1F ∷ 0x82
+    ∷ 0x18 ∷ 0x01 ∷ 0x63 ∷ 0x35 ∷ 0x97 ∷ 0x12 ∷ 0x34 ∷ 0x12 ∷ 0x34 ∷ 0x56 ∷ 0x77 ∷ 0x01
+    ∷ 0x00 ∷ 0x00 ∷ 0x00 ∷ 0x64 ∷ 0x21 ∷ 0x06 ∷ 0x03 ∷ 0x02 ∷ 0x00 ∷ 0x00 ∷ 0x97 ∷ 0xF6
     ∷ (replicate 9 0 ++ (0x20 ∷ 0x02 ∷ replicate 31 0 ++ (0x20 ∷ 0x02 ∷ replicate 31 0 ++ (0x20 ∷ 0x02 ∷ replicate 31 0
     ++ (0 ∷ 0 ∷ 0x00 ∷ 0x06 ∷ 0xE1 ∷ 0x00 ∷ 0x01 ∷ 0x00 ∷ 0x06 ∷ 0xE1 ∷ 0x00 ∷ 0x01 ∷ 0x00 ∷ 0x06 ∷ 0xE1 ∷ 0x00 ∷ 0x01
     ∷ a ∷ 0x80 ∷ replicate 47 0)))))
@@ -90,7 +91,7 @@ ends-alike =
 
 -- what is to be computed
 judge : List ℕ → Step → Answer
-unfolding answer seen productAt elementAt stepRules formIn verdict rules first all stated version copy shellValues fields dataset B S e# SCTL shellPad SECR beforeSECR sectorAt directoryAt entryAt tableAt isProduct Ψ tableBytes element tablePad chain sectors mark sector joined product brokenAt sharesAt products.brokenAt products.sharesAt member products.meet products.some lowest field number bit digit leadingZeros walkOn link crc register clocks clock
+unfolding answer seen productAt elementAt stepRules formIn verdict rules first all stated version copy shellValues fields dataset B S e# SCTL shellPad SECR beforeSECR sectorAt directoryAt entryAt tableAt isProduct Ψ tableBytes element tablePad chain sectors mark sector joined product brokenAt sharesAt products.brokenAt products.sharesAt member products.meet products.some lowest field number bit digit leadingZeros walkOn link crc digitsOf luhn register clocks clock
 judge c s = answer c s
 
 act : List ℕ → Step → List ℕ

@@ -11,6 +11,7 @@ use Rattle.chains.specs.Walk.{link, member, walkOn}
 use Rattle.chains.specs.Psi.{Ψ, tableBytes}
 use Rattle.chains.specs.Products as products
 use Rattle.crc.specs.Crc.{clock, clocks, register, crc}
+use Rattle.digits.specs.Digits.{digitsOf, luhn}
 use Rattle.rules.specs.First.{all, first}
 use Rattle.rules.specs.Lowest.{lowest}
 use Rattle.image.specs.Image.{stated, version, copy, shellValues, dataset, B, S, e#, SCTL, shellPad, SECR, beforeSECR, sectorAt, directoryAt, entryAt, tableAt, element, tablePad, chain, sectors, mark, sector, joined, product}
@@ -28,14 +29,14 @@ use Rattle.jobs.specs.Loose.{verdictLoose, seenLoose, answerLoose, nextL
 unfoldable pub card : ℕ → List ℕ
 card a =
     0x02 ∷ 0x14 ∷ 1 ∷ 0
-    ∷ 0x18 ∷ 0x01 ∷ 0x63 ∷ 0x35 ∷ 0x97 ∷ 0x12 ∷ 0x34 ∷ 0x12 ∷ 0x34 ∷ 0x56 ∷ 0x78 ∷ 0x01
-    ∷ 0x00 ∷ 0x00 ∷ 0x00 ∷ 0x64 ∷ 0x21 ∷ 0x10 ∷ 0x02 ∷ 0x07 ∷ 0x00 ∷ 0x00 ∷ 0xB5 ∷ 0x5C
+    ∷ 0x18 ∷ 0x01 ∷ 0x63 ∷ 0x35 ∷ 0x97 ∷ 0x12 ∷ 0x34 ∷ 0x12 ∷ 0x34 ∷ 0x56 ∷ 0x77 ∷ 0x01
+    ∷ 0x00 ∷ 0x00 ∷ 0x00 ∷ 0x64 ∷ 0x21 ∷ 0x10 ∷ 0x02 ∷ 0x07 ∷ 0x00 ∷ 0x00 ∷ 0x3D ∷ 0x28
     ∷ (replicate 9 0 ++ (replicate 429 0 ++ (0 ∷ 0 ∷ 0x00 ∷ 0x06 ∷ 0xE1 ∷ 0x00 ∷ 0x01 ∷ 0x00 ∷ 0x06 ∷ 0xE1 ∷ 0x00 ∷ 0x01
     ∷ 0x33 ∷ a ∷ replicate 52 0)))
 
 -- what is to be computed
 judge : List ℕ → Step → Answer
-unfolding answer seen productAt elementAt stepRules verdict rules first all stated version copy shellValues fields dataset B S e# SCTL shellPad SECR beforeSECR sectorAt directoryAt entryAt tableAt isProduct Ψ tableBytes element tablePad chain sectors mark sector joined product brokenAt sharesAt products.brokenAt products.sharesAt member products.meet products.some lowest field number bit digit leadingZeros walkOn link crc register clocks clock
+unfolding answer seen productAt elementAt stepRules verdict rules first all stated version copy shellValues fields dataset B S e# SCTL shellPad SECR beforeSECR sectorAt directoryAt entryAt tableAt isProduct Ψ tableBytes element tablePad chain sectors mark sector joined product brokenAt sharesAt products.brokenAt products.sharesAt member products.meet products.some lowest field number bit digit leadingZeros walkOn link crc digitsOf luhn register clocks clock
 judge c s = answer c s
 
 -- with rule 11 every step on it is refused

@@ -13,7 +13,7 @@ use Rattle.image.specs.Seen.{Seen, seenBy}
 use Rattle.steps.specs.Step.{Step, owner}
 use Rattle.steps.specs.Steps.{answerOf, placesOf, valuesOf}
 
--- the verdict by the numbers 1 to 10
+-- the verdict by the numbers 1 to 10 and 12
 unfoldable pub verdictLoose : List ℕ → Answer
 verdictLoose c = judged (first (rules c)) (lowest (e# c) (brokenAt c)) 0
 

@@ -76,7 +76,7 @@ module _ (c : List ℕ) (bytes : Bytes c) (o : Obeys c) where
   shell-taken n h =
       shell-round.encode-taken (shellValues c) n .1 (
         fit-fields (drop 4 c) lists.shell,
-        (obeys .bit-map-zero, (obeys .dataset-least, (obeys .iin, (obeys .issn, (obeys .chd, (h, tt)))))),
+        (obeys .bit-map-zero, (obeys .dataset-least, (obeys .iin, (obeys .oid, (obeys .issn, (obeys .chd, (obeys .check-digit, (h, tt)))))))),
       )
 
   values-front : valuesIn (part c 4 (dataset c)) ≡ shellValues c

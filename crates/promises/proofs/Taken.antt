@@ -14,6 +14,7 @@ use Rattle.dates.proofs.Exactly.{stamp-dated}
 use Rattle.chains.proofs.PsiLaws.{psi-is, psi-one}
 use Rattle.shell.specs.declared.Shell.{Shell}
 use Rattle.shell.proofs.Round as shell
+use Rattle.shell.proofs.Words.{chd-once}
 use Rattle.directory.proofs.Round as directory
 use Rattle.table.proofs.Places.{drop-zeros}
 use Rattle.table.proofs.Round as table
@@ -24,7 +25,9 @@ use Rattle.ticket.proofs.Round as ticket
 use Rattle.ticket.proofs.Steps.{taken-next, taken-value}
 use Rattle.image.specs.Image.{sectors}
 use Rattle.image.proofs.Exact.{accepted-exactly, obeys-facts}
-use Rattle.image.proofs.Answers.{check-says, accepted-values}
+use Rattle.image.specs.Mistyped.{mistyped, exchanged}
+use Rattle.image.proofs.Answers.{check-exactly, check-says, accepted-values}
+use Rattle.image.proofs.Mistyped.{length-isrn, isrn-at, mistyped-refused, exchanged-refused}
 use Rattle.image.proofs.Limits.{size-limits}
 use Rattle.image.proofs.Stays.{chain-of, chain-only}
 use Rattle.image.proofs.First.{product-size}
@@ -53,6 +56,11 @@ demand2 = record {
   accepted = λ c. let e = check-says c .0 in ((λ z. accepted-exactly c .0 (sym e ∙ z)), λ o. e ∙ accepted-exactly c .1 o);
   sizes = λ c o. size-limits c (obeys-facts c o);
   psi = λ s h k. let q = psi-is s (omega arith) k in (q, λ p e. psi-one s p _ e q);
+  check-digit = λ c o. obeys-facts c o .check-digit;
+  isrn-read = λ c. (length-isrn c, isrn-at c);
+  check-digit-once = λ vs h. chd-once vs (omega arith);
+  digit-mistyped = λ c i d b o h t n. check-exactly (mistyped c i d) 12 0 .1 (mistyped-refused c i d b o h t n);
+  digits-exchanged = λ c i b o h n up down. check-exactly (exchanged c i) 12 0 .1 (exchanged-refused c i b o h n up down);
   check-read = accepted-values;
   shell-read = values.shell-read;
   directory-read = values.directory-read;

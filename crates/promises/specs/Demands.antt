@@ -4,7 +4,7 @@
 use mathlib.Core.Path.{_≡_}
 use mathlib.Core.Logic.{_↔_, _≢_, _⊎_}
 use mathlib.Core.List.{List, [], _∷_, _++_}
-use Prim.Native.Nat.{ℕ, _+_, _-_, _*_, _^_, _≤_, _<_}
+use Prim.Native.Nat.{ℕ, _+_, _-_, _*_, _%_, _^_, _≤_, _<_}
 use lib.ListN.{length, getD, set, take, drop, replicate}
 use Rattle.rules.specs.Claim.{Means, _≤?_, rule, Answers}
 use Rattle.bits.specs.Bits.{Bytes, digit, bit, field, store, Outside}
@@ -15,6 +15,7 @@ use Rattle.fields.specs.Padded.{held}
 use Rattle.fields.specs.declared.Span.{Span}
 use Rattle.fields.specs.declared.Layout.the-variants.{Entry, Head, Tail, Header}
 use Rattle.crc.specs.Crc.{crc}
+use Rattle.digits.specs.Digits.{luhn}
 use Rattle.dates.specs.Calendar.{date, stampDate, dated, dateOf, stampOf}
 use Rattle.dates.specs.Impossible.{Unstamped}
 use Rattle.chains.specs.Chain.{In, Chain, lastOf}
@@ -33,11 +34,12 @@ use Rattle.ticket.specs.declared.Changed.{Changed}
 use Rattle.ticket.specs.declared.Decoded.{Decoded}
 use Rattle.ticket.specs.declared.Encoded.{Encoded}
 use Rattle.ticket.specs.declared.Record.{Record}
-use Rattle.image.specs.Image.{copy, shellValues, dataset, B, S, e#, SCTL, sectorAt, directoryAt, entryAt, tableAt, element, sectors, mark, product}
+use Rattle.image.specs.Image.{copy, shellValues, isrn, dataset, B, S, e#, SCTL, sectorAt, directoryAt, entryAt, tableAt, element, sectors, mark, product}
 use Rattle.image.specs.Product.{elementAt, productAt}
 use Rattle.image.specs.Obeys.{IsProduct, Obeys, Says, Gives}
 use Rattle.image.specs.Answer.{numberOf, entryOf, valuesOf}
 use Rattle.image.specs.Check.{checkOf}
+use Rattle.image.specs.Mistyped.{digitAt, mistyped, exchanged}
 use Rattle.reads.specs.Values.{directoryValues, entryValues, ticketRules, kindAt, ticketEnd, extent}
 use Rattle.reads.specs.Card.{readShell, readDirectory, readTable}
 use Rattle.reads.specs.Entry.{readEntry, readChain}
@@ -150,6 +152,18 @@ pub record Demand2 : Type 0 where
   pub accepted : (c : List ℕ) → (numberOf (checkOf c) ≡ 0) ↔ Obeys c
   pub sizes : (c : List ℕ) → Obeys c → (132 ≤ length c) × (length c ≤ 60439)
   pub psi : (s : ℕ) → 4 ≤ s → s ≤ 255 → IsPsi s (Ψ s) × ((p : ℕ) → IsPsi s p → p ≡ Ψ s)
+  -- T-03: "The eighteen-digit reference ends in CHD, which is the Luhn digit .. over the IIN, the operator number and the serial number"; where its digits stand
+  pub check-digit : (c : List ℕ) → Obeys c → luhn (isrn c) % 10 ≡ 0
+  pub isrn-read : (c : List ℕ) → (length (isrn c) ≡ 18) × ((i : ℕ) → i < 18 → getD (isrn c) (17 - i) 0 ≡ digitAt c i)
+  -- among sixteen values, whatever the others are, one digit as CHD, value 6, is right
+  pub check-digit-once : (vs : List ℕ) → length vs ≡ 16
+      → (d : ℕ) × (d ≤ 9) × (luhn (shell.ISRN (set vs 6 d)) % 10 ≡ 0) × ((e : ℕ) → e ≤ 9 → luhn (shell.ISRN (set vs 6 e)) % 10 ≡ 0 → e ≡ d)
+  -- "Three batches came back with a mistyped shell number": with one digit another, or two neighbours exchanged but for 0 and 9, and SECR made right again, it is 12
+  pub digit-mistyped : (c : List ℕ) (i d : ℕ) → Bytes c → Obeys c → i < 18 → d ≤ 9 → d ≢ digitAt c i
+      → (numberOf (checkOf (mistyped c i d)) ≡ 12) × (entryOf (checkOf (mistyped c i d)) ≡ 0)
+  pub digits-exchanged : (c : List ℕ) (i : ℕ) → Bytes c → Obeys c → i < 17 → digitAt c i ≢ digitAt c (1 + i)
+      → ((digitAt c i ≡ 0) × (digitAt c (1 + i) ≡ 9) → ⊥) → ((digitAt c i ≡ 9) × (digitAt c (1 + i) ≡ 0) → ⊥)
+      → (numberOf (checkOf (exchanged c i)) ≡ 12) × (entryOf (checkOf (exchanged c i)) ≡ 0)
   -- "Each field of shell, directory and ticket is read as the value its bits carry there."
   pub check-read : (c : List ℕ) → Obeys c
       → valuesOf (checkOf c) ≡ copy c ∷ dataset c ∷ B c ∷ S c ∷ e# c ∷ SCTL c ∷ Ψ (S c) ∷ directoryAt c ∷ tableAt c ∷ []

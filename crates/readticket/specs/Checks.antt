@@ -25,7 +25,7 @@ use Rattle.readticket.specs.declared.checks.Sound.{Sound}
 use Rattle.readticket.specs.declared.checks.Judged.{Judged}
 use Rattle.readticket.specs.declared.checks.Judged.the-variants.{Taken, Refused}
 
--- 1 to 11, the image's own; 20: entry 0, above e#, or empty
+-- 1 to 12, the image's own; 20: entry 0, above e#, or empty
 abbrev pub foundNumber : Found → ℕ
 foundNumber (There l n) = 0
 foundNumber (Not n e) = n

@@ -13,7 +13,7 @@ ghost use Rattle.image.specs.Shape.{Shaped};
 ghost use Rattle.image.specs.Facts.{Present};
 ghost use Rattle.readticket.specs.Checks.{foundNumber, foundEntry, statedIn, roomIn, judgedIn};
 
-// 1 to 11, or 20: the number of what was found, and the entry that it names.
+// 1 to 12, or 20: the number of what was found, and the entry that it names.
 fn number_of(found: Found) -> usize
     ensures { λ r. ⌜ r ≡ foundNumber found ⌝ }
 {

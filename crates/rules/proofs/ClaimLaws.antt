@@ -7,7 +7,7 @@ use Prim.Native.Nat.{ℕ, zero, suc, _≤_, _<_}
 use native.Mathlib.Omega.{arith}
 use native.Mathlib.Decide.{decLt}
 use lib.Dec.{eqb}
-use borrow.Author.Tests.{eqb-true, eq-eqb, leb-true, le-leb, not-true}
+use borrow.Author.Tests.{eqb-true, eq-eqb, ne-eqb, leb-true, le-leb, not-true}
 use Rattle.rules.specs.Claim.{Claim, _≡?_, _≤?_, _and_, every, Means, Rule, Kept, Fails, here, later}
 use Rattle.rules.specs.First.{all, holds, ifKept, first}
 use Rattle.rules.specs.Rows.{rowsBefore, rowOf, FailsRow}
@@ -90,6 +90,11 @@ found (r ∷ rs) h = go (holds (r .claim)) refl (found rs (h .1))
 abbrev pub orElse : ℕ → ℕ → ℕ
 orElse zero m = m
 orElse (suc n) m = suc n
+
+-- a number that is none leaves the word to the next
+pub kept-else : (n m : ℕ) → ifKept (eqb n 0) m n ≡ orElse n m
+kept-else zero m = refl
+kept-else (suc n) m = rw (ne-eqb (suc n) 0 (λ e. omega arith)) refl
 
 pub first-append : (rs ss : List Rule) → Numbered rs → first (rs ++ ss) ≡ orElse (first rs) (first ss)
 unfolding first

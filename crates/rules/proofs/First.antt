@@ -1,13 +1,13 @@
 -- What `first` gives back, exactly: 0 where every rule is kept, and n where the first that is not kept has the number n. Both follow
 -- from `found`, since no list keeps all its rules and fails one. Assumes nothing.
-use mathlib.Core.Path.{_≡_, refl, subst}
+use mathlib.Core.Path.{_≡_, refl, ap, subst, _∙_}
 use mathlib.Core.Logic.{_↔_}
-use mathlib.Core.List.{List}
+use mathlib.Core.List.{List, _++_}
 use Prim.Native.Nat.{ℕ, zero, suc, _≤_}
 use native.Mathlib.Omega.{arith}
 use Rattle.rules.specs.Claim.{Rule, Kept, Fails, Answers, against, taken}
 use Rattle.rules.specs.First.{first}
-use Rattle.rules.proofs.ClaimLaws.{Numbered, Found, none, one, found, kept-fails, fails-one}
+use Rattle.rules.proofs.ClaimLaws.{Numbered, Found, none, one, found, kept-fails, fails-one, orElse, first-append}
 
 module _ (rs : List Rule) (h : Numbered rs) where
   pub kept-of-first : first rs ≡ 0 → Kept rs
@@ -23,6 +23,10 @@ module _ (rs : List Rule) (h : Numbered rs) where
       go : {n : ℕ} → Found rs n → n ≡ 0
       go (none k′) = refl
       go (one a f) = absurd (kept-fails f k)
+
+  -- rules that are kept leave the word to those after them
+  pub first-after : (ss : List Rule) → Kept rs → first (rs ++ ss) ≡ first ss
+  first-after ss k = first-append rs ss h ∙ ap (λ (n : ℕ). orElse n (first ss)) (first-of-kept k)
 
   pub fails-of-first : (n : ℕ) → 1 ≤ n → first rs ≡ n → Fails rs n
   fails-of-first n l e = go (first rs) e (found rs h)

@@ -24,6 +24,8 @@ pub const BROKEN_CHAIN: usize = 10;
 
 pub const SHARED_SECTOR: usize = 11;
 
+pub const WRONG_CHECK_DIGIT: usize = 12;
+
 pub const NO_PRODUCT: usize = 20;
 
 pub const WRONG_ROOM: usize = 21;

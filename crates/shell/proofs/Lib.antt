@@ -1,4 +1,4 @@
 pub mod Dataset
-pub mod DigitLaws
+pub mod Words
 pub mod Round
 pub mod Rules

@@ -1,13 +1,14 @@
 -- The shell record (document 01, "Shell record"; 004, 4.1): its sixteen values, and the rules that they keep by themselves. Assumes nothing.
-use Prim.Native.Nat.{ℕ, _-_, _*_, _/_, _%_, _^_}
+use Prim.Native.Nat.{ℕ, _-_, _*_, _/_, _%_}
 use mathlib.Core.List.{List, [], _∷_, _++_}
 use lib.ListN.{getD, take, replicate}
 use Rattle.bits.specs.Bits.{field}
 use Rattle.crc.specs.Crc.{crc}
+use Rattle.digits.specs.Digits.{decimal, digitsOf, luhn}
 use Rattle.fields.specs.declared.Layout.the-variants as layout
 use Rattle.fields.specs.Fields.{fields, stores, fitRules}
 use Rattle.fields.specs.Lists as lists
-use Rattle.rules.specs.Claim.{Claim, _≡?_, _≤?_, every, Rule, rule}
+use Rattle.rules.specs.Claim.{_≡?_, _≤?_, Rule, rule}
 
 abbrev pub valuesIn : List ℕ → List ℕ  -- the sixteen values of the bytes d, the shell's first byte first
 valuesIn d = fields d lists.shell
@@ -20,6 +21,9 @@ ShellBitMap vs = getD vs 1 0
 
 abbrev pub IIN : List ℕ → ℕ
 IIN vs = getD vs 3 0
+
+abbrev pub OID : List ℕ → ℕ
+OID vs = getD vs 4 0
 
 abbrev pub ISSN : List ℕ → ℕ
 ISSN vs = getD vs 5 0
@@ -42,15 +46,21 @@ tableLength vs = getD vs 15 0
 abbrev pub datasetOf : List ℕ → ℕ  -- the bytes of the dataset: ShellLength counts blocks of four (4.1.1)
 datasetOf vs = 4 * ShellLength vs
 
-abbrev pub decimal : ℕ → ℕ → Claim  -- the n digits of four bits each of which v is made are decimal
-decimal n v = every n λ i. v / 2 ^ (4 * i) % 16 ≤? 9
-
 -- number 5, of ShellBitMap and the bytes of the dataset: the map not 0, or the dataset under 22 bytes
 abbrev pub formRules : ℕ → ℕ → List Rule
 formRules map bytes = rule 5 (map ≡? 0) ∷ rule 5 (22 ≤? bytes) ∷ []
 
-abbrev pub digitRules : ℕ → ℕ → ℕ → List Rule  -- number 8, first half: a digit of IIN, ISSN or CHD above 9
-digitRules iin issn chd = rule 8 (decimal 6 iin) ∷ rule 8 (decimal 7 issn) ∷ rule 8 (decimal 1 chd) ∷ []
+-- number 8, first half: a digit of IIN, OID, ISSN or CHD above 9 (OID: four decimal digits, 4.1.4.2)
+abbrev pub digitRules : List ℕ → List Rule
+digitRules vs = rule 8 (decimal 6 (IIN vs)) ∷ rule 8 (decimal 4 (OID vs)) ∷ rule 8 (decimal 7 (ISSN vs)) ∷ rule 8 (decimal 1 (CHD vs)) ∷ []
+
+-- the eighteen digits of the ISRN, the shell's reference number (4.1.4: IIN, OID, ISSN, CHD), from the right
+abbrev pub ISRN : List ℕ → List ℕ
+ISRN vs = digitsOf 1 (CHD vs) ++ (digitsOf 7 (ISSN vs) ++ (digitsOf 4 (OID vs) ++ digitsOf 6 (IIN vs)))
+
+-- number 12 (request T-03): CHD is not the check digit of the seventeen digits before it
+abbrev pub checkDigitRule : List ℕ → Rule
+checkDigitRule vs = rule 12 (luhn (ISRN vs) % 10 ≡? 0)
 
 -- ---- what follows the sixteen values in a dataset of n bytes
 
@@ -65,13 +75,14 @@ beforeSECR d n = take (n - 2) d
 
 -- ---- encoding one (document 01, "Encoding what was read")
 
--- the checks in order: 26 (a value too wide), 5, 8, and 21 (a buffer of `room` bytes is shorter than the dataset)
+-- the checks in order: 26 (a value too wide), 5, 8, 12, and 21 (a buffer of `room` bytes is shorter than the dataset)
 abbrev pub encodeRules : List ℕ → ℕ → List Rule
 encodeRules vs room =
     fitRules layout.Shell vs
     ++ (formRules (ShellBitMap vs) (datasetOf vs)
-    ++ (digitRules (IIN vs) (ISSN vs) (CHD vs)
-    ++ (rule 21 (datasetOf vs ≤? room)
+    ++ (digitRules vs
+    ++ (checkDigitRule vs
+    ∷ rule 21 (datasetOf vs ≤? room)
     ∷ [])))
 
 unfoldable pub bodyOf : List ℕ → List ℕ  -- the dataset before SECR: the sixteen values, then zero padding

@@ -1,17 +1,21 @@
 // The shell record: its sixteen values, and the dataset that holds them with zero padding and SECR.
+use digits::decimal;
+use digits::ends_right;
 use fields::Layout;
 use rules::Answer;
 use rules::TOO_LARGE;
+use rules::WRONG_CHECK_DIGIT;
 use rules::WRONG_DIGIT;
 use rules::WRONG_ROOM;
 use rules::WRONG_SHELL;
+use rules::need;
 ghost use mathlib.Core.Path.{_≡_};
-ghost use Prim.Native.Nat.{_-_, _*_, _^_, _≤_, _<_};
+ghost use Prim.Native.Nat.{_-_, _*_, _≤_, _<_};
 ghost use lib.ListN.{length};
-ghost use Rattle.rules.specs.First.{holds, first};
+ghost use Rattle.rules.specs.First.{first};
 ghost use Rattle.rules.specs.Answer.{says};
-ghost use Rattle.shell.specs.Shell.{datasetOf, decimal, formRules, digitRules, bodyOf, encodedShell};
-ghost use Rattle.shell.specs.Encode.{decodeOf, encodeNumber, encodeIn};
+ghost use Rattle.shell.specs.Shell.{datasetOf, formRules, bodyOf, encodedShell};
+ghost use Rattle.shell.specs.Encode.{wordRules, decodeOf, encodeNumber, encodeIn};
 
 // The sixteen values in the order of document 01.
 #[repr(C)]
@@ -24,11 +28,13 @@ pub const SHELL_LENGTH: usize = 0;
 
 pub const SHELL_BIT_MAP: usize = 1;
 
-pub const IIN: usize = 3;
+const IIN: usize = 3;
 
-pub const ISSN: usize = 5;
+const OID: usize = 4;
 
-pub const CHD: usize = 6;
+const ISSN: usize = 5;
+
+const CHD: usize = 6;
 
 pub const SECTOR_BYTES: usize = 12;
 
@@ -37,14 +43,6 @@ pub const SECTOR_COUNT: usize = 13;
 pub const ENTRY_COUNT: usize = 14;
 
 pub const TABLE_LENGTH: usize = 15;
-
-// Whether the eight digits of four bits of which v is made are decimal: one is above 9 where its bit 8 stands with its bit 4 or its bit 2.
-pub fn decimal(v: u64) -> bool
-    requires { ⌜ v < 2 ^ 32 ⌝ }
-    ensures { λ r. ⌜ r ≡ holds (decimal 8 v) ⌝ }
-{
-    (v & (v << 1 | v << 2) & 0x8888_8888) == 0
-}
 
 // Number 5, of ShellBitMap and the bytes of the dataset; 0 where its rules are kept.
 pub fn form(map: u64, bytes: usize) -> usize
@@ -59,19 +57,19 @@ pub fn form(map: u64, bytes: usize) -> usize
     0
 }
 
-// Number 8 of the digits of IIN, ISSN and CHD; 0 where its rules are kept.
-pub fn digits(iin: u64, issn: u64, chd: u64) -> usize
-    requires { ⌜ (iin < 2 ^ 24) × (issn < 2 ^ 28) × (chd < 2 ^ 4) ⌝ }
-    ensures { λ r. ⌜ r ≡ first (digitRules iin issn chd) ⌝ }
+// 8 and 12 of the ISRN, of which `high` is the first two digits and `low` the sixteen others; 0 where their rules are kept.
+pub fn judge_isrn(high: u64, low: u64) -> usize
+    requires { ⌜ high < 256 ⌝ }
+    ensures { λ r. ⌜ r ≡ first (wordRules high low) ⌝ }
 {
-    if !decimal(iin) {
+    if !decimal(high) {
         return WRONG_DIGIT;
     }
-    if !decimal(issn) {
+    if !decimal(low) {
         return WRONG_DIGIT;
     }
-    if !decimal(chd) {
-        return WRONG_DIGIT;
+    if !ends_right(high, low) {
+        return WRONG_CHECK_DIGIT;
     }
     0
 }
@@ -93,7 +91,7 @@ pub fn decode(bytes: [u8; 20]) -> Shell
     shell_in(&bytes)
 }
 
-// The first of 26, 5, 8 and 21 that the values and the room for them do not keep; 0 where they keep all.
+// The first of 26, 5, 8, 12 and 21 that the values and the room for them do not keep; 0 where they keep all.
 fn judge(v: &[u64], room: usize) -> usize
     requires { ⌜ length (now v) ≡ 16 ⌝ }
     ensures { λ r. ⌜ r ≡ encodeNumber (now (v .entry)) room ⌝ }
@@ -106,14 +104,12 @@ fn judge(v: &[u64], room: usize) -> usize
     if shape != 0 {
         return shape;
     }
-    let digit = digits(v[IIN], v[ISSN], v[CHD]);
-    if digit != 0 {
-        return digit;
-    }
-    if room < bytes {
-        return WRONG_ROOM;
-    }
-    0
+    let low = v[IIN] % 0x1_0000 * 0x1_0000_0000_0000
+        + v[OID] * 0x1_0000_0000
+        + v[ISSN] * 0x10
+        + v[CHD];
+    let digit = judge_isrn(v[IIN] / 0x1_0000, low);
+    need(digit, digit == 0, need(WRONG_ROOM, bytes <= room, 0))
 }
 
 // The dataset before SECR: the sixteen values and zero padding.
@@ -137,7 +133,7 @@ fn write_dataset(s: &mut [u8], v: &[u64])
     s[end + 1] = (x % 256) as u8;
 }
 
-// Writes the dataset of the values into the buffer; later bytes stay. Refused by 26, 5, 8 or 21, nothing is altered.
+// Writes the dataset of the values into the buffer; later bytes stay. Refused by 26, 5, 8, 12 or 21, nothing is altered.
 pub fn encode(s: Shell, out: &mut [u8]) -> Answer
     ensures { λ r. ⌜ (r ≡ says (encodeNumber (s .values) (length (now (out .entry)))) 0) × (now (out .exit) ≡ encodeIn (s .values) (now (out .entry))) ⌝ }
 {

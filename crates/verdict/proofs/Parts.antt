@@ -1,4 +1,4 @@
--- The verdict from the number by the rules 1 to 9 and what the pass over the chains answers, and what a check and a look for a product make of both.
+-- The verdict from the number by the rules 1 to 9 and 12 and what the pass over the chains answers, and what a check and a look for a product make of both.
 -- Assumes nothing.
 use mathlib.Core.Path.{_≡_, refl, sym, ap, _∙_}
 use mathlib.Core.Logic.{_≢_}

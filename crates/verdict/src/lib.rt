@@ -1,4 +1,4 @@
-// The verdict on an image: the numbers 1 to 11 in their order, and, for a call on one product, 20.
+// The verdict on an image: the numbers 1 to 8, 12, and 9 to 11, in this order, and, for a call on one product, 20.
 mod measure;
 
 use image::Checked;

@@ -1,4 +1,4 @@
-// The numbers 1 to 9, and the shape of an image that keeps their rules.
+// The numbers 1 to 9 and 12, and the shape of an image that keeps their rules.
 use fields::Layout;
 use image::Shape;
 use image::sector_from;
@@ -10,16 +10,13 @@ use rules::WRONG_SECR;
 use rules::WRONG_SIZE;
 use rules::WRONG_TABLE;
 use rules::WRONG_VERSION;
-use shell::CHD;
+use rules::need;
 use shell::ENTRY_COUNT;
-use shell::IIN;
-use shell::ISSN;
 use shell::SECTOR_BYTES;
 use shell::SECTOR_COUNT;
 use shell::SHELL_BIT_MAP;
 use shell::SHELL_LENGTH;
 use shell::TABLE_LENGTH;
-use shell::decimal;
 ghost use mathlib.Core.Path.{_≡_};
 ghost use Prim.Native.Nat.{_+_, _*_, _%_, _^_, _≤_, _<_};
 ghost use lib.ListN.{length, drop};
@@ -31,10 +28,11 @@ ghost use Rattle.fields.specs.Lists as lists;
 ghost use Rattle.fields.specs.Lists.{nth};
 ghost use Rattle.fields.specs.declared.Layout.the-variants as layout;
 ghost use Rattle.rules.specs.First.{first};
-ghost use Rattle.image.specs.Image.{SECR, beforeSECR, tablePad};
+ghost use Rattle.image.specs.Image.{shellValues, SECR, beforeSECR, tablePad};
 ghost use Rattle.image.specs.Bounds.{Bounds};
 ghost use Rattle.image.specs.Shape.{Shaped};
 ghost use Rattle.image.specs.Rules.{headRules, sizeRules, contentRules, rules};
+ghost use Rattle.shell.specs.Encode.{isrnRules};
 
 // The field i of the shell of an image, as a size.
 fn of_shell(image: &[u8], i: usize) -> usize
@@ -177,7 +175,18 @@ fn table_pad(image: &[u8], g: Shape) -> usize
     bits::closing(image, g.table + g.bytes - 1, 8 * g.bytes - used) as usize
 }
 
-// Numbers 7 to 9.
+// 8 and 12 of the ISRN, whose digits stand in bytes 6 to 14; 0 where their rules are kept.
+fn judge_isrn(image: &[u8]) -> usize
+    requires { ⌜ 36 ≤ length (now image) ⌝ }
+    ensures { λ r. ⌜ r ≡ first (isrnRules (shellValues (now (image .entry)))) ⌝ }
+{
+    shell::judge_isrn(
+        bits::load(image, 6, 1),
+        bits::load(image, 7, 4) * 0x1_0000_0000 + bits::load(image, 11, 4),
+    )
+}
+
+// Numbers 7, 8, 12 and 9.
 fn content(image: &[u8], g: Shape) -> usize
     requires { ⌜ Shaped (now image) g ⌝ }
     ensures { λ r. ⌜ r ≡ first (contentRules (now (image .entry))) ⌝ }
@@ -185,24 +194,18 @@ fn content(image: &[u8], g: Shape) -> usize
     if !secr_right(image, g) {
         return WRONG_SECR;
     }
-    let digit = shell::digits(
-        of_shell(image, IIN) as u64,
-        of_shell(image, ISSN) as u64,
-        of_shell(image, CHD) as u64,
-    );
-    if digit != 0 {
+    let digit = judge_isrn(image);
+    if digit == WRONG_DIGIT {
         return digit;
     }
     if !zeros(image, 24, g.dataset - 22) {
         return WRONG_DIGIT;
     }
-    if table_pad(image, g) != 0 {
-        return WRONG_TABLE;
-    }
-    0
+    let filled = table_pad(image, g) == 0;
+    need(digit, digit == 0, need(WRONG_TABLE, filled, 0))
 }
 
-// The first of the numbers 1 to 9; 0 where their rules are kept: each rule by itself, in their order.
+// The first of the numbers 1 to 9 and 12; 0 where their rules are kept: each rule by itself, in their order.
 fn judged(image: &[u8]) -> usize
     ensures { λ r. ⌜ r ≡ first (rules (now (image .entry))) ⌝ }
 {
@@ -218,7 +221,7 @@ fn judged(image: &[u8]) -> usize
 }
 
 // The same. Where a dataset of 24 bytes keeps all rules, as most do, that is seen in fewer steps: no matter which rule is looked at first, one look for
-// several, and whatever fails is judged as above.
+// several, and whatever fails is judged as above. The one look that is a call comes last, when nothing has to be kept for later.
 pub fn number(image: &[u8]) -> usize
     ensures { λ r. ⌜ r ≡ first (rules (now (image .entry))) ⌝ }
 {
@@ -243,12 +246,6 @@ pub fn number(image: &[u8]) -> usize
         return judged(image);
     }
     if map != 0 {
-        return judged(image);
-    }
-    if !decimal(crc::quad(image, 5) / 256) {
-        return judged(image);
-    }
-    if !decimal(crc::quad(image, 11)) {
         return judged(image);
     }
     if bits::load(image, 0, 2) as usize != n {
@@ -281,6 +278,9 @@ pub fn number(image: &[u8]) -> usize
     }
     let last = sector_from(b, s - 2 + copy) + 1 + 5 * e + t;
     if bits::closing(image, last, 8 * t - used) != 0 {
+        return judged(image);
+    }
+    if judge_isrn(image) != 0 {
         return judged(image);
     }
     0

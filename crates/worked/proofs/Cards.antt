@@ -12,6 +12,7 @@ use Rattle.chains.specs.Products as products
 use Rattle.chains.specs.Products.{meet, some}
 use Rattle.chains.specs.Psi.{Ψ, tableBytes}
 use Rattle.crc.specs.Crc.{clock, clocks, register, crc}
+use Rattle.digits.specs.Digits.{digitsOf, luhn}
 use Rattle.rules.specs.First.{all, first}
 use Rattle.rules.specs.Lowest.{lowest}
 use Rattle.image.specs.Image.{stated, version, copy, shellValues, dataset, B, S, e#, SCTL, shellPad, SECR, beforeSECR, sectorAt, directoryAt, entryAt, tableAt, element, tablePad, chain, sectors, mark, sector, joined, product}
@@ -30,7 +31,7 @@ use Rattle.worked.specs.Cards.{shellStart, shellSector, directory, card,
 
 -- the verdict, with all that it stands on opened
 unfoldable pub judge : List ℕ → Answer
-unfolding verdict rules first all stated version copy shellValues fields dataset B S e# SCTL shellPad SECR beforeSECR sectorAt directoryAt entryAt tableAt isProduct Ψ tableBytes element tablePad chain sectors brokenAt products.brokenAt member meet some sharesAt products.sharesAt lowest field number bit digit leadingZeros walkOn link crc register clocks clock
+unfolding verdict rules first all stated version copy shellValues fields dataset B S e# SCTL shellPad SECR beforeSECR sectorAt directoryAt entryAt tableAt isProduct Ψ tableBytes element tablePad chain sectors brokenAt products.brokenAt member meet some sharesAt products.sharesAt lowest field number bit digit leadingZeros walkOn link crc digitsOf luhn register clocks clock
 judge c = verdict c
 
 -- and so a read, and a step

@@ -2,7 +2,8 @@
 
 from .calls import words
 from .cards import element_set, entry_set, random_plan
-from .faults import altered, bit_flipped, byte_set, shell_set
+from .faults import altered, bit_flipped, byte_set, mistyped, numbered, shell_set
+from .isrn import BY_HAND
 
 
 def pairs(dice, plan):
@@ -40,6 +41,8 @@ def pairs(dice, plan):
         image = bit_flipped(image, 8 * plan.place(plan.chain[j][0][-1]) + dice.below(8 * plan.B))
     yield image, sorted(both)
     yield shell_set(good, "reserved", dice.below(4)), []
+    seventeen, right = dice.pick(BY_HAND)
+    yield numbered(good, seventeen + str(right)), []
     yield altered(plan, length=6).image(), []
     yield altered(plan, head=[1, 2, 3], tail=[4, 5, 6, 7], seal=b"\1" * plan.B, other_copy=b"\2").image(), []
 
@@ -89,6 +92,14 @@ def touched_calls(script, dice, plan):
     script.say("keep", expect="ok")
     script.load(byte_set(good, 3, 2))
     script.say("touched", expect="3 0")
+    script.load(mistyped(dice, good))
+    script.say("touched", expect="12 0")
+    script.say("keep", expect="ok")
+    script.load(byte_set(good, 3, 2))
+    script.say("touched", expect="12 0")
+    script.load(good)
+    script.say("touched", expect="12 0")
+    script.say("keep", expect="ok")
     if plan.chain:
         j = max(plan.chain)
         broken = element_set(plan, good, plan.chain[j][0][-1], 0)

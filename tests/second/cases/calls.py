@@ -1,4 +1,4 @@
-"""Calls on a good card, at the very boundary of numbers 20 to 28 (24 is withdrawn), with their answers."""
+"""Calls on a good card, at the very boundary of numbers 20 to 28 (24 is withdrawn), and on a refused one, with their answers."""
 
 from model.table import BLOCKED, FRESH, USED, psi
 
@@ -21,10 +21,36 @@ def tickets(plan, writable=False):
 
 
 def whole_reads(script, plan):
-    """Every value of the card."""
+    """Every value of the card; the shell encodes again."""
     script.say("shell", expect=words([0, 0] + plan.shell_values()))
+    script.say("encode-shell", 4 * plan.length, words(plan.shell_values()), expect="0 0 " + plan.dataset().hex())
     script.say("directory", expect=words([0, 0] + plan.head + plan.tail))
     script.say("table", expect=words([0, 0] + plan.elements()))
+
+
+def refused_calls(script, dice, plan, image, number):
+    """Every call on an image that is refused with this number and entry 0: zeros, and no byte of the image or of the buffer altered."""
+    refusal = words([number, 0])
+    script.load(image)
+    script.say("check", expect=refusal)
+    script.say("list", expect="refused " + refusal)
+    script.say("shell", expect=words([refusal] + [0] * 16))
+    script.say("directory", expect=words([refusal] + [0] * 7))
+    script.say("table", expect=refusal)
+    script.say("keep", expect="ok")
+    for j in sorted(plan.chain)[:1] + [0, plan.entries + 1]:
+        script.say("entry", j, expect=words([refusal] + [0] * 7))
+        script.say("chain", j, expect=words([refusal, 0, 0]))
+        size = plan.product_length(j) if j in plan.chain else plan.B
+        for text, expect in (("ticket", refusal), ("rest", "-")):
+            script.say(text, j, size, expect=expect)
+            script.say("buffer", size + 1, expect="a5" * (size + 1))
+        form = plan.ticket[j][0] if j in plan.ticket else dice.pick(FORMS)
+        for text in ("field %d 1 255" % j, "field %d 0 %d" % (j, BIG), record_line(j, form, random_record(dice, form)),
+                     "record %d %d %d" % ((j,) + dice.pick(UNLISTED)), "mark %d 1" % j, "mark %d 2" % j, "mark %d 3" % j):
+            script.say(text, expect=refusal)
+    script.say("touched", expect=refusal)
+    script.say("bytes", expect=image.hex())
 
 
 def product_reads(script, plan, j):

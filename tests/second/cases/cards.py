@@ -1,10 +1,11 @@
 """Good cards over the whole range of sizes and chains."""
 
 from model.bits import write_bits
-from model.fields import ENTRY, HEAD, HEADER, TAIL, encode
-from model.shell import encode_shell
+from model.crc import crc
+from model.fields import ENTRY, HEAD, HEADER, SHELL, TAIL, encode
 from model.table import BLOCKED, FRESH, USED, encode_table, psi, table_length
 
+from . import isrn
 from .forms import FORMS, most, packed, unpacked
 
 LARGEST_S, LARGEST_B = 237, 255
@@ -19,7 +20,7 @@ class Plan:
     def __init__(self, S, B, entries, length=6, copy=0):
         self.S, self.B, self.entries, self.length, self.copy = S, B, entries, length, copy
         # IIN, OID, ISSN, CHD, FVC, KSC, KVC, reserved, EXP of the shell.
-        self.issuer = [0x633597, 0x0123, 0x0004567, 8, 1, 2, 3, 0, 0]
+        self.issuer = [0x633597, 0x1234, 0x1234567, 7, 1, 2, 3, 0, 0]
         self.revision = 1
         self.head = [0, 0, 1]
         self.tail = [0, 0, 0, 0]
@@ -84,6 +85,11 @@ class Plan:
         head = [self.length, 0, self.revision]
         return head + self.issuer + [self.B, self.S, self.entries, self.sctl()]
 
+    def dataset(self):
+        """The bytes of the shell's dataset."""
+        covered = filled(encode(SHELL, self.shell_values()), 4 * self.length - 2)
+        return covered + crc(covered).to_bytes(2, "big")
+
     def directory(self):
         """The sector of the copy in force."""
         data = bytearray(encode(HEAD, self.head))
@@ -96,9 +102,7 @@ class Plan:
 
     def image(self):
         """The bytes of the card."""
-        shell = bytearray(max(self.B, 4 * self.length))
-        encode_shell(self.shell_values(), shell)
-        shell = filled(bytes(shell[:4 * self.length]) + self.after_shell, self.B)
+        shell = filled(self.dataset() + self.after_shell, self.B)
         sectors = [shell] + [filled(self.bytes.get(n, b""), self.B) for n in range(1, self.S - 2)]
         copies = [filled(self.other_copy, self.B)] * 2
         copies[self.copy] = self.directory()
@@ -201,8 +205,8 @@ def random_plan(dice, small=False, sparse=False, tickets=80, sizes=None):
     plan.length = dice.pick([6, min(63, B // 4), dice.between(6, min(63, B // 4))])
     plan.copy = dice.below(2)
     plan.revision = dice.pick([1, 1, 1, 0, 15])
-    plan.issuer = [digits(dice, 6), dice.below(65536), digits(dice, 7), digits(dice, 1),
-                   dice.below(256), dice.below(256), dice.below(256), dice.below(4), dice.below(16384)]
+    plan.issuer = isrn.values(isrn.random_number(dice))
+    plan.issuer += [dice.below(256), dice.below(256), dice.below(256), dice.below(4), dice.below(16384)]
     plan.head = [dice.below(64), dice.below(64), dice.below(16)]
     plan.tail = [dice.below(256), dice.below(16), dice.below(16), dice.below(2 ** 32)]
     random_chains(dice, plan)
@@ -220,6 +224,14 @@ def random_plan(dice, small=False, sparse=False, tickets=80, sizes=None):
         if dice.chance(tickets):
             random_ticket(dice, plan, j)
     return plan
+
+
+def roomy_plan(dice, sizes, sparse=False):
+    """A card with two chains or more and bits after its table's elements, so that it has room for a fault of every number."""
+    while True:
+        plan = random_plan(dice, sparse=sparse, sizes=sizes)
+        if len(plan.chain) > 1:
+            return plan
 
 
 def thin_sector(dice, B):
@@ -283,14 +295,6 @@ def smallest_plan(dice, form):
     plan.chain = {1: ([1], dice.pick([FRESH, USED]))}
     random_ticket(dice, plan, 1, form)
     return plan
-
-
-def digits(dice, count):
-    """A number of decimal digits, four bits each."""
-    number = 0
-    for _ in range(count):
-        number = number * 16 + dice.pick([0, 9, dice.below(10)])
-    return number
 
 
 def random_chains(dice, plan):

@@ -1,4 +1,4 @@
-"""Images at the very boundary of numbers 1 to 11, with the answer each must have."""
+"""Images at the very boundary of numbers 1 to 12, with the answer each must have."""
 
 import copy
 
@@ -6,14 +6,20 @@ from model.bits import read_bits, write_bits
 from model.crc import crc
 from model.table import psi, table_bits, table_length
 
+from . import isrn
 from .cards import Plan, element_set, entry_set, full_plan, most_entries, random_entry, random_plan
 
 GOOD = (0, 0)
 
+# The numbers of an image in the order in which they are judged.
+ORDER = (1, 2, 3, 4, 5, 6, 7, 8, 12, 9, 10, 11)
+
 # First bit and width in the shell's first twenty bytes.
-PLACE = {"ShellLength": (0, 6), "ShellBitMap": (6, 6), "IIN": (16, 24), "OID": (40, 16),
-         "ISSN": (56, 28), "CHD": (84, 4), "reserved": (112, 2),
+PLACE = {"ShellLength": (0, 6), "ShellBitMap": (6, 6), "reserved": (112, 2),
          "B": (128, 8), "S": (136, 8), "e#": (144, 8), "SCTL": (152, 8)}
+
+# The image's bytes that hold the eighteen digits of the shell's number.
+DIGITS = slice(6, 15)
 
 
 def restated(image):
@@ -48,6 +54,26 @@ def shell_set(image, name, value):
     image = bytearray(image)
     write_bits(image, 32 + first, width, value)
     return resealed(image)
+
+
+def digits_in(image):
+    """The eighteen digits of the shell's number, as they stand in the image."""
+    return image[DIGITS].hex()
+
+
+def misprinted(image, digits):
+    """The image with these eighteen digits and its old SECR."""
+    return bytes(image[:DIGITS.start]) + bytes.fromhex(digits) + bytes(image[DIGITS.stop:])
+
+
+def numbered(image, digits):
+    """The image with these eighteen digits, and the SECR right again."""
+    return resealed(misprinted(image, digits))
+
+
+def mistyped(dice, image):
+    """The image with one digit of its right number changed, so that its check digit is wrong, and the SECR right again."""
+    return numbered(image, isrn.one_changed(dice, digits_in(image)))
 
 
 def altered(plan, **changes):
@@ -194,20 +220,102 @@ def checksum_cases(dice, plan, good):
 
 def digit_cases(dice, plan, good):
     """Number 8: every digit at 9 and 10, and the padding."""
-    for name, count in (("IIN", 6), ("ISSN", 7), ("CHD", 1)):
-        first, width = PLACE[name]
-        number = read_bits(good, 32 + first, width)
-        for place in range(count):
-            rest = number & ~(15 << (4 * place))
-            yield shell_set(good, name, rest | (dice.pick([10, 10, 15, dice.between(10, 15)]) << (4 * place))), (8, 0)
-            if dice.chance(30):
-                yield shell_set(good, name, rest | (9 << (4 * place))), GOOD
-    yield shell_set(good, "OID", 0xFFFF), GOOD
-    yield shell_set(good, "OID", 0xA000 >> (4 * dice.below(4))), GOOD
+    digits = digits_in(good)
+    for place in range(18):
+        over = dice.pick(["a", "a", "f", dice.pick(isrn.OVER)])
+        yield numbered(good, isrn.with_digit(digits, place, over)), (8, 0)
+        if place != isrn.CHD_PLACE and dice.chance(30):
+            yield numbered(good, isrn.whole(isrn.with_digit(digits, place, 9)[:17])), GOOD
+    yield numbered(good, digits[:6] + "ffff" + digits[10:]), (8, 0)
     yield shell_set(good, "reserved", 3), GOOD
+    for image in padded(dice, plan, good):
+        yield image, (8, 0)
+
+
+def padded(dice, plan, image):
+    """The image with a bit of the shell's padding set: its first, its last and any."""
     last = 4 * plan.length - 3
     for place, value in ((20, 128), (last, 1), (dice.between(20, last), 1 << dice.below(8))):
-        yield resealed(byte_set(good, 4 + place, value)), (8, 0)
+        yield resealed(byte_set(image, 4 + place, value))
+
+
+def number_cases(dice, good, count):
+    """Number 12: so many digits changed, neighbours exchanged, and numbers by hand; what the rule does not notice is accepted."""
+    digits = digits_in(good)
+    for place in dice.some(range(18), count):
+        yield numbered(good, isrn.one_changed(dice, digits, place)), (12, 0)
+    for place, noticed in dice.some(isrn.neighbours(digits), count):
+        yield numbered(good, isrn.exchanged(digits, place, place + 1)), (12, 0) if noticed else GOOD
+    for place in dice.some(range(16), count):
+        yield numbered(good, isrn.exchanged(digits, place, place + 2)), GOOD
+    for seventeen, right in dice.some(isrn.BY_HAND, count):
+        yield numbered(good, seventeen + str(right)), GOOD
+        yield numbered(good, seventeen + str((right + dice.between(1, 9)) % 10)), (12, 0)
+
+
+def beside_cases(dice, plan, good):
+    """A wrong check digit beside a fault of every other number: 1 to 8 come first, and 9 to 11 come after it."""
+    wrong = mistyped(dice, good)
+    for number in ORDER[:ORDER.index(12)]:
+        case = one_fault(dice, plan, wrong, number)
+        if case is not None:
+            yield case
+    yield misprinted(good, digits_in(wrong)), (7, 0)
+    for blocks in (0, 5):
+        yield shell_set(wrong, "ShellLength", blocks), (5, 0)
+    yield shell_set(wrong, "S", plan.S - 1), (6, 0)
+    for image in padded(dice, plan, wrong):
+        yield image, (8, 0)
+    for place in range(18):
+        digits = isrn.one_changed(dice, digits_in(good), (place + dice.between(1, 17)) % 18)
+        yield numbered(good, isrn.with_digit(digits, place, dice.pick(isrn.OVER))), (8, 0)
+    for later in ((9,), (10,), (11,), (11, 10), (11, 9), (10, 9), (11, 10, 9)):
+        image = with_faults(dice, plan, wrong, later)
+        if image is not None:
+            yield image, (12, 0)
+
+
+def with_faults(dice, plan, image, numbers):
+    """The image with a fault of each of these numbers; None if the card has no room for them."""
+    for number in numbers:
+        case = one_fault(dice, plan, image, number)
+        if case is None:
+            return None
+        image, _ = case
+    return image
+
+
+def check_digit_cases(dice, plan, good):
+    """Number 12: some digits of the number, and some other faults beside."""
+    yield from number_cases(dice, good, 3)
+    yield from dice.some(beside_cases(dice, plan, good), 3)
+
+
+def every_digit_cases(dice, plan, good):
+    """Numbers 8 and 12 for every digit: all of the above, every digit of OID and CHD above 9, and every check digit of a number."""
+    yield from number_cases(dice, good, 18)
+    yield from beside_cases(dice, plan, good)
+    digits = digits_in(good)
+    for place in list(isrn.OID_PLACES) + [isrn.CHD_PLACE]:
+        for over in isrn.OVER:
+            yield numbered(good, isrn.with_digit(digits, place, over)), (8, 0)
+    for chd in range(10):
+        number = isrn.with_digit(digits, isrn.CHD_PLACE, chd)
+        yield numbered(good, number), GOOD if number == digits else (12, 0)
+        yield numbered(good, isrn.with_digit(number, dice.below(17), dice.pick(isrn.OVER))), (8, 0)
+
+
+def dataset_cases(dice, plan):
+    """Numbers 8 and 12 for datasets of 24 bytes, of some more and of as many as the sector holds."""
+    most = min(63, plan.B // 4)
+    for length in sorted({6, 7, 8, dice.between(6, most), most}):
+        if length <= most:
+            twin = altered(plan, length=length)
+            good = twin.image()
+            yield good, GOOD
+            yield mistyped(dice, good), (12, 0)
+            for image in padded(dice, twin, mistyped(dice, good)):
+                yield image, (8, 0)
 
 
 def padding_cases(dice, plan, good):
@@ -311,10 +419,10 @@ def shared_cases(dice, plan, good):
 
 BY_NUMBER = {1: length_cases, 2: version_cases, 3: copy_cases, 4: short_cases, 5: form_cases,
              6: size_cases, 7: checksum_cases, 8: digit_cases, 9: padding_cases,
-             10: broken_cases, 11: shared_cases}
+             10: broken_cases, 11: shared_cases, 12: check_digit_cases}
 
 
-def boundary_cases(dice, plan, numbers=range(1, 12)):
+def boundary_cases(dice, plan, numbers=ORDER):
     """All boundary images of one card."""
     good = plan.image()
     yield good, GOOD
@@ -323,8 +431,8 @@ def boundary_cases(dice, plan, numbers=range(1, 12)):
 
 
 def several_faults(dice, plan):
-    """An image with several faults at once; the lowest number decides."""
-    wished = sorted(dice.some(range(1, 12), dice.between(2, 6)), reverse=True)
+    """An image with several faults at once; the first number in the order decides."""
+    wished = sorted(dice.some(ORDER, dice.between(2, 6)), key=ORDER.index, reverse=True)
     image, answer = plan.image(), GOOD
     for number in wished:
         step = one_fault(dice, plan, image, number)
@@ -334,7 +442,7 @@ def several_faults(dice, plan):
 
 
 def one_fault(dice, plan, image, number):
-    """The image with one more fault, lower than those it has; None if the card has no room for it."""
+    """The image with one more fault, judged before those it has; None if the card has no room for it."""
     chains = sorted(plan.chain)
     if number == 11 and len(chains) > 1:
         low, high = sorted(dice.some(chains, 2))
@@ -344,10 +452,12 @@ def one_fault(dice, plan, image, number):
         return element_set(plan, image, plan.chain[j][0][-1], 0), (10, j)
     if number == 9 and table_bits(plan.S) % 8:
         return bit_flipped(image, 8 * (plan.table_place() + plan.sctl()) - 1), (9, 0)
+    if number == 12:
+        return mistyped(dice, image), (12, 0)
     if number == 8:
         if dice.chance(50):
             return resealed(byte_set(image, 4 + 20, dice.between(1, 255))), (8, 0)
-        return shell_set(image, "CHD", dice.between(10, 15)), (8, 0)
+        return numbered(image, isrn.with_digit(digits_in(image), dice.below(18), dice.pick(isrn.OVER))), (8, 0)
     if number == 7:
         return bit_flipped(image, 32 + 8 * (4 * plan.length - 2) + dice.below(16)), (7, 0)
     if number == 6:
@@ -375,8 +485,22 @@ def one_fault(dice, plan, image, number):
     return None
 
 
+def digits_damaged(dice, image):
+    """The image with a digit of its number changed or with two neighbours exchanged, if it has decimal digits."""
+    digits, place = digits_in(image), dice.below(17)
+    if not digits.isdecimal():
+        return image
+    return misprinted(image, dice.pick([isrn.one_changed(dice, digits), isrn.exchanged(digits, place, place + 1)]))
+
+
+def digits_mended(image):
+    """The image with the check digit of its number, if it has decimal digits."""
+    digits = digits_in(image)
+    return misprinted(image, isrn.whole(digits[:17])) if digits[:17].isdecimal() else image
+
+
 def mutated(dice, plan):
-    """A good card with random changes, often with the right SECR again; its answer is open."""
+    """A good card with random changes, often with the right SECR again, and then often with the right check digit; its answer is open."""
     image = bytearray(plan.image())
     for _ in range(dice.between(1, 4)):
         start, length = dice.pick([
@@ -387,6 +511,11 @@ def mutated(dice, plan):
         image[place] = dice.pick([0, 255, dice.below(256), image[place] ^ (1 << dice.below(8)),
                                   (image[place] + 1) % 256])
     if dice.chance(50):
+        kind = dice.below(10)
+        if kind == 0:
+            image = digits_damaged(dice, image)
+        elif kind < 8:
+            image = digits_mended(image)
         image = bytearray(resealed(image))
     if dice.chance(10):
         cut = dice.between(0, len(image))

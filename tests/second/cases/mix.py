@@ -7,7 +7,7 @@ from . import calls, faults
 from .calls import record_line, words
 from .cards import crowded_plan, full_plan, kinds_plan, random_plan, random_record
 from .forms import BIG, FORMS, MOST_BYTES, MOST_VALUES, UNLISTED, most, name
-from .values import LAYOUTS, random_shell, random_values
+from .values import LAYOUTS, mistyped, random_shell, random_values
 
 NONSENSE = ("", " ", "?", "Check", "check 1", "check ", " check", "shell 1", "directory 0", "table 1", "entry",
             "entry 1 2", "entry x", "entry -1", "chain", "chain 18446744073709551616", "ticket", "ticket 1 65537",
@@ -32,7 +32,7 @@ def random_case(script, dice):
         return good_case(script, dice)
     if kind < 75:
         plan = random_plan(dice, small=dice.chance(60))
-        number = dice.between(1, 11)
+        number = dice.pick(faults.ORDER + (12, 12))
         images = list(faults.BY_NUMBER[number](dice, plan, plan.image()))
         image, answer = dice.pick(images) if images else (plan.image(), faults.GOOD)
     elif kind < 82:
@@ -204,7 +204,9 @@ def random_value_call(script, dice):
         random_ticket_call(script, dice)
     elif kind in (8, 9):
         values = random_shell(dice)
-        if dice.chance(50):
+        if dice.chance(20):
+            values = mistyped(dice, values)
+        elif dice.chance(50):
             i = dice.below(16)
             values[i] = near(dice, 2 ** SHELL[i][1] - 1)
         lent = dice.pick([4 * min(values[0], 63), max(0, 4 * min(values[0], 63) - 1), dice.between(0, 300)])

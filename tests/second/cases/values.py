@@ -3,8 +3,9 @@
 from model.fields import ENTRY, HEAD, HEADER, SHELL, TAIL
 from model.table import psi, table_length
 
+from . import isrn
 from .calls import words
-from .cards import digits, random_record, record_with
+from .cards import random_record, record_with
 from .forms import BIG, FORMS, MOST_BYTES, MOST_VALUES, UNLISTED, most, name, packed, unpacked
 
 PUBLISHED = (("000000", 0xC6CC), ("0faaff", 0xD1FC), ("0a123456", 0xF62C), (b"123456789".hex(), 0x906E))
@@ -163,12 +164,31 @@ def random_shell(dice):
     values = [dice.below(2 ** width) for _, width in SHELL]
     values[0] = dice.pick([6, 7, 63, dice.between(6, 63)])
     values[1] = 0
-    values[3], values[5], values[6] = digits(dice, 6), digits(dice, 7), digits(dice, 1)
-    return values
+    return with_number(values, isrn.random_number(dice))
+
+
+def number_of(values):
+    """The eighteen digits of a shell's values."""
+    return isrn.digits_of(values[3:7])
+
+
+def with_number(values, digits):
+    """A shell's values with these eighteen digits."""
+    return values[:3] + isrn.values(digits) + values[7:]
+
+
+def mistyped(dice, values):
+    """A shell's values with one digit of the right number changed."""
+    return with_number(values, isrn.one_changed(dice, number_of(values)))
+
+
+def over(dice, values):
+    """A shell's values with one digit of the number above 9."""
+    return with_number(values, isrn.with_digit(number_of(values), dice.below(18), dice.pick(isrn.OVER)))
 
 
 def shell_calls(script, dice, count):
-    """26, 5, 8 and 21 at their boundaries and several at once."""
+    """26, 5, 8, 12 and 21 at their boundaries and several at once."""
     for _ in range(count):
         values = random_shell(dice)
         dataset = 4 * values[0]
@@ -187,39 +207,84 @@ def shell_calls(script, dice, count):
         values = random_shell(dice)
         values[1] = bitmap
         script.number("encode-shell 252", words(values), expect=(5, 0))
-    for index, places in ((3, 6), (5, 7), (6, 1)):
-        for place in range(places):
-            values = random_shell(dice)
-            values[0] = 6
-            values[index] = values[index] & ~(15 << (4 * place)) | (10 << (4 * place))
-            script.say("encode-shell 25", words(values), expect="8 0 " + "a5" * 25)
-            values[index] += (9 << (4 * place)) - (10 << (4 * place))
-            script.number("encode-shell 25", words(values), expect=(0, 0))
+    digit_calls(script, dice)
+    check_digit_calls(script, dice)
     for index, (_, width) in enumerate(SHELL):
         values = random_shell(dice)
         values[0] = 6
         values[index] = dice.pick([2 ** width, 2 ** width, BIG])
         script.say("encode-shell 24", words(values), expect="26 0 " + "a5" * 24)
-    for _ in range(count * 2):
-        values, numbers = random_shell(dice), []
-        values[0] = 7
-        if dice.chance(50):
-            values[dice.pick([3, 6])] = dice.pick([0xA, 0xF])
-            numbers.append(8)
-        if dice.chance(50):
-            values[1] = dice.between(1, 63)
-            numbers.append(5)
-        if dice.chance(30):
-            values[dice.pick([4, 7, 8, 9, 10, 11, 12, 13, 14, 15])] = 2 ** 16
-            numbers.append(26)
-        lent = dice.pick([27, 28, 0, 29])
-        order = [number for number in (26, 5, 8) if number in numbers] + ([21] if lent < 28 else []) + [0]
-        script.number("encode-shell", lent, words(values), expect=(order[0], 0))
+    shell_orders(script, dice, count)
     good = random_shell(dice)
     script.number("encode-shell 4096", words(good), expect=(0, 0))
     for text in ("encode-shell 24", "encode-shell 4097 " + words(good), "encode-shell 24 " + words(good[1:]),
                  "encode-shell 24 " + words(good + [0]), "decode-shell " + "00" * 19, "decode-shell " + "00" * 21):
         script.say(text, expect="?")
+
+
+def digit_calls(script, dice):
+    """8: every digit at 10, whatever the check digit, and at 9, with the right check digit and with the old one."""
+    for place in range(18):
+        values = random_shell(dice)
+        values[0] = 6
+        digits = number_of(values)
+        script.say("encode-shell 25", words(with_number(values, isrn.with_digit(digits, place, "a"))), expect="8 0 " + "a5" * 25)
+        script.say("encode-shell 24", words(with_number(values, isrn.with_digit(digits, place, dice.pick(isrn.OVER)))),
+                   expect="8 0 " + "a5" * 24)
+        nine = isrn.with_digit(digits, place, 9)
+        script.number("encode-shell 25", words(with_number(values, nine)), expect=(0, 0) if nine == digits else (12, 0))
+        script.number("encode-shell 25", words(with_number(values, isrn.whole(nine[:17]))), expect=(0, 0))
+    for place in isrn.OID_PLACES:
+        for digit in isrn.OVER:
+            values = random_shell(dice)
+            digits = isrn.with_digit(number_of(values), isrn.CHD_PLACE, dice.below(10))
+            script.number("encode-shell 252", words(with_number(values, isrn.with_digit(digits, place, digit))), expect=(8, 0))
+    values, place = random_shell(dice), dice.below(17)
+    for chd in range(16):
+        digits = isrn.with_digit(isrn.with_digit(number_of(values), place, dice.pick(isrn.OVER)), isrn.CHD_PLACE, "%x" % chd)
+        script.number("encode-shell 252", words(with_number(values, digits)), expect=(8, 0))
+
+
+def check_digit_calls(script, dice):
+    """12: every check digit of numbers by hand, every digit changed and every two neighbours exchanged, and what is not noticed."""
+    for seventeen, right in isrn.BY_HAND + tuple(case for case in isrn.PUBLISHED if len(case[0]) == 17):
+        for chd in range(10):
+            values = random_shell(dice)
+            values[0] = 6
+            text = words(with_number(values, seventeen + str(chd)))
+            if chd == right:
+                script.number("encode-shell 24", text, expect=(0, 0))
+            else:
+                lent = dice.pick([0, 23, 24, 25])
+                script.say("encode-shell", lent, text, expect="12 0 " + ("a5" * lent or "-"))
+    values = random_shell(dice)
+    digits, dataset = number_of(values), 4 * values[0]
+    others = [(isrn.one_changed(dice, digits, place), (12, 0)) for place in range(18)]
+    others += [(isrn.exchanged(digits, place, place + 1), (12, 0) if noticed else (0, 0)) for place, noticed in isrn.neighbours(digits)]
+    others += [(isrn.exchanged(digits, place, place + 2), (0, 0)) for place in range(16)]
+    for other, expect in others:
+        script.number("encode-shell", dataset, words(with_number(values, other)), expect=expect)
+
+
+def shell_orders(script, dice, count):
+    """Every choice of 26, 5, 8, 12 and 21 at once: the first of them in this order is given."""
+    for chosen in range(2 ** 5):
+        numbers = [number for i, number in enumerate((26, 5, 8, 12, 21)) if chosen >> i & 1]
+        for _ in range(max(1, count // 2)):
+            values = random_shell(dice)
+            dataset = 4 * values[0]
+            lent = dice.pick([0, dataset - 1]) if 21 in numbers else dataset + dice.pick([0, 1])
+            if 12 in numbers:
+                values = mistyped(dice, values)
+            if 8 in numbers:
+                values = over(dice, values)
+            if 5 in numbers:
+                index, value = dice.pick([(1, dice.between(1, 63)), (0, dice.below(6))])
+                values[index] = value
+            if 26 in numbers:
+                index = dice.below(16)
+                values[index] = dice.pick([values[index] + 2 ** SHELL[index][1], BIG])
+            script.number("encode-shell", lent, words(values), expect=((numbers + [0])[0], 0))
 
 
 def table_calls(script, dice, sectors):

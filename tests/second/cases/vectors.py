@@ -1,7 +1,7 @@
 """The choice of commands that is kept with its answers, group by group."""
 
 from . import between, calls, faults, mix, values
-from .cards import Plan, crowded_plan, full_plan, kinds_plan, night_plan, random_plan, smallest_plan
+from .cards import Plan, crowded_plan, full_plan, kinds_plan, night_plan, random_plan, roomy_plan, smallest_plan
 from .dice import Dice
 from .forms import FORMS, UNLISTED
 
@@ -64,6 +64,10 @@ def check_group(script, dice):
             if len(image) < 3000 or len(image) == len(plan.image()):
                 script.load(image)
                 script.number("check", expect=answer)
+    for plan in [roomy_plan(dice, sizes, sparse=True) for sizes in ((16, 64, 5), (7, 255, 4))]:
+        for image, answer in list(faults.every_digit_cases(dice, plan, plan.image())) + list(faults.dataset_cases(dice, plan)):
+            script.load(image)
+            script.number("check", expect=answer)
     plan = Plan(9, 48, 3)
     for image, answer in faults.single_bits(dice, plan, plan.image(), range(40)):
         script.load(image)
@@ -114,7 +118,7 @@ def list_group(script, dice):
             script.load(image)
             script.say("list")
     plan = random_plan(dice, small=True)
-    for number in range(1, 12):
+    for number in faults.ORDER:
         for image, answer in dice.some(faults.BY_NUMBER[number](dice, plan, plan.image()), 3):
             script.load(image)
             script.say("list", expect="refused %d %d" % answer if answer[0] else None)
@@ -145,7 +149,8 @@ def reads_group(script, dice):
             calls.buffer_calls(script, dice, plan, j, plan.product_length(j) < 600)
             calls.ticket_calls(script, dice, plan, good, j, plan.product_length(j) < 100)
     for plan in plans[:6]:
-        for number in range(1, 12):
+        calls.refused_calls(script, dice, plan, faults.mistyped(dice, plan.image()), 12)
+        for number in faults.ORDER:
             for image, answer in dice.some(faults.BY_NUMBER[number](dice, plan, plan.image()), 1):
                 script.load(image)
                 for text in dice.some(["shell", "directory", "table", "entry 1", "chain 1", "ticket 1", "ticket 0"], 3):
@@ -205,11 +210,12 @@ def steps_group(script, dice):
         for _ in range(12):
             script.say(calls.random_step(dice, plan))
         whole()
-        script.load(faults.byte_set(good, 2, 0))
-        for _ in range(4):
-            text = calls.random_step(dice, plan)
-            script.number(text, expect=(2, 0))
-        whole()
+        for image, number in ((faults.byte_set(good, 2, 0), 2), (faults.mistyped(dice, good), 12)):
+            script.load(image)
+            for _ in range(4):
+                text = calls.random_step(dice, plan)
+                script.number(text, expect=(number, 0))
+            whole()
     larger = with_tickets(dice, 16, False, True) + with_tickets(dice, 1, False, True, (237, 255, 1))
     larger += [full_plan(dice), crowded_plan(dice)]
     for plan in larger:

@@ -1,9 +1,9 @@
-"""The check of an image: numbers 1 to 11 in order."""
+"""The check of an image: numbers 1 to 8, 12, 9, 10 and 11 in this order."""
 
 from .crc import crc
 from .fields import SHELL, value_of
 from .refusal import Refused
-from .shell import (FIXED_BYTES, SECR_BYTES, dataset_length, decode_shell,
+from .shell import (FIXED_BYTES, SECR_BYTES, check_digit_is_wrong, dataset_length, decode_shell,
                     digits_are_wrong, form_is_wrong)
 from .table import elements_of, padding_is_wrong, table_length, walk
 
@@ -112,6 +112,8 @@ def open_card(image):
         raise Refused(7)
     if digits_are_wrong(card.shell) or any(covered[FIXED_BYTES:]):
         raise Refused(8)
+    if check_digit_is_wrong(card.shell):
+        raise Refused(12)
     if padding_is_wrong(card.S, card.table()):
         raise Refused(9)
 

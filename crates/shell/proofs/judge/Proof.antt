@@ -1,13 +1,15 @@
 -- `shell::judge` meets its contract: it stops at the first part of the rules that fails. Assumes nothing.
-use mathlib.Core.Path.{_≡_, sym, _∙_}
+use mathlib.Core.Path.{_≡_, refl, sym, ap, _∙_}
 use mathlib.Core.Bool.{true}
+use Prim.Native.Nat.{ℕ}
 use native.Mathlib.Omega.{arith}
+use lib.Dec.{eqb}
 use borrow.Author.Needs.{needs}
 use borrow.Author.Tests.{not-true, not-false}
 use Rattle.fields.specs.Fields.{fit}
 use Rattle.fields.specs.Lists as lists
-use Rattle.rules.specs.First.{holds}
-use Rattle.shell.proofs.Rules.{Narrow, narrow, wide, at-form, at-digit, at-room, at-end}
+use Rattle.rules.specs.First.{holds, ifKept}
+use Rattle.shell.proofs.Rules.{Narrow, narrow, wide, in-words, at-form, at-last}
 use Rattle.shell.proofs.judge.Statement.{statement}
 use Rattle.shell.proofs.judge.Tie as tie
 
@@ -41,34 +43,56 @@ form-requires c κs = search needs
 returns-2 : tie.Need-returns-2
 returns-2 c = let i = c .before .before .before .before in at-form _ _ (fits i) (c .before .form .ensures) (c .if2 .taken)
 
-shared-slice-read-digits : tie.Need-shared-slice-read-digits
-shared-slice-read-digits c = search needs
+shared-slice-read-low : tie.Need-shared-slice-read-low
+shared-slice-read-low c = search needs
 
-shared-slice-read-digits-2 : tie.Need-shared-slice-read-digits-2
-shared-slice-read-digits-2 c = search needs
+mul-low : tie.Need-mul-low
+mul-low c = search needs
 
-shared-slice-read-digits-3 : tie.Need-shared-slice-read-digits-3
-shared-slice-read-digits-3 c = search needs
+shared-slice-read-low-2 : tie.Need-shared-slice-read-low-2
+shared-slice-read-low-2 c = search needs
 
-digits-requires : tie.Need-digits-requires
-digits-requires c κs = let n = few (c .before .before .before .before .before .before .before) in (n .iin-fits, n .issn-fits, n .chd-fits)
+mul-low-2 : tie.Need-mul-low-2
+mul-low-2 c = omega (arith, few (c .before .before .before .before .before .before))
+
+add-low : tie.Need-add-low
+add-low c = omega (arith, few (c .before .before .before .before .before .before))
+
+shared-slice-read-low-3 : tie.Need-shared-slice-read-low-3
+shared-slice-read-low-3 c = search needs
+
+mul-low-3 : tie.Need-mul-low-3
+mul-low-3 c = omega (arith, few (c .before .before .before .before .before .before .before))
+
+add-low-2 : tie.Need-add-low-2
+add-low-2 c = omega (arith, few (c .before .before .before .before .before .before .before))
+
+shared-slice-read-low-4 : tie.Need-shared-slice-read-low-4
+shared-slice-read-low-4 c = search needs
+
+add-low-3 : tie.Need-add-low-3
+add-low-3 c = omega (arith, few (c .before .before .before .before .before .before .before .before))
+
+shared-slice-read-judge-isrn : tie.Need-shared-slice-read-judge-isrn
+shared-slice-read-judge-isrn c = search needs
+
+judge-isrn-requires : tie.Need-judge-isrn-requires
+judge-isrn-requires c κs = omega (arith, few (c .before .before .before .before .before .before .before .before .before))
+
+need-requires : tie.Need-need-requires
+need-requires c κs = search needs
+
+need-requires-2 : tie.Need-need-requires-2
+need-requires-2 c κs = search needs
 
 returns-3 : tie.Need-returns-3
 returns-3 c =
-    let f = c .before .before .before .before .before in
-    at-digit _ _ (fits (f .before .before .before .before)) (f .before .form .ensures) (f .if2 .left) (c .before .digits .ensures) (c .if3 .taken)
-
-returns-4 : tie.Need-returns-4
-returns-4 c =
-    let d = c .before in
-    let f = d .before .before .before .before .before in
-    at-room _ _ (fits (f .before .before .before .before)) (f .before .form .ensures) (f .if2 .left) (d .before .digits .ensures) (d .if3 .left) (c .if4 .taken)
-
-returns-5 : tie.Need-returns-5
-returns-5 c =
-    let d = c .before in
-    let f = d .before .before .before .before .before in
-    at-end _ _ (fits (f .before .before .before .before)) (f .before .form .ensures) (f .if2 .left) (d .before .digits .ensures) (d .if3 .left) (c .if4 .left)
+    let n = c .before .before in
+    let f = n .before .before .before .before .before .before in
+    let i = f .before .before .before .before in
+    c .need2 .ensures
+    ∙ ap (λ (x : ℕ). ifKept (eqb (n .judge-isrn .result) 0) x (n .judge-isrn .result)) (c .before .need .ensures)
+    ∙ at-last _ _ (fits i) (f .before .form .ensures) (f .if2 .left) (n .judge-isrn .ensures ∙ in-words _ (few i)) refl
 
 pub judge-spec : {M : Type 1} → statement M
 judge-spec =
@@ -81,10 +105,18 @@ judge-spec =
     shared-slice-read-form
     form-requires
     returns-2
-    shared-slice-read-digits
-    shared-slice-read-digits-2
-    shared-slice-read-digits-3
-    digits-requires
-    returns-3
-    returns-4
-    returns-5)
+    shared-slice-read-low
+    mul-low
+    shared-slice-read-low-2
+    mul-low-2
+    add-low
+    shared-slice-read-low-3
+    mul-low-3
+    add-low-2
+    shared-slice-read-low-4
+    add-low-3
+    shared-slice-read-judge-isrn
+    judge-isrn-requires
+    need-requires
+    need-requires-2
+    returns-3)

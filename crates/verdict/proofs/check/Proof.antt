@@ -1,4 +1,4 @@
--- `verdict::check` meets its contract: the rules 1 to 9 decide, and then the chains. Assumes nothing.
+-- `verdict::check` meets its contract: the rules 1 to 9 and 12 decide, and then the chains. Assumes nothing.
 use Rattle.image.proofs.Verdict.{ruled-out, ruled-bounds}
 use Rattle.verdict.proofs.Parts.{chains-refuse, chains-pass, check-refused, check-accepted}
 use borrow.Author.Needs.{needs}

@@ -1,37 +1,29 @@
 -- `measure::number` meets its contract: what fails any look is judged rule by rule, and what passes them all keeps all rules. Assumes nothing.
 use mathlib.Core.Path.{_≡_, sym, ap, ap₂, _∙_}
-use mathlib.Core.Bool.{Bool, false, not}
 use Prim.Native.Nat.{ℕ, _+_, _-_, _*_, _/_, _≤_}
 use native.Mathlib.Omega.{arith}
 use lib.ListN.{length}
 use borrow.Author.Needs.{needs}
-use borrow.Author.Tests.{not-false}
 use Rattle.bits.specs.Bits.{Bytes}
 use Rattle.chains.specs.Psi.{Ψ}
 use Rattle.chains.proofs.Places.{small}
 use Rattle.fields.specs.Fields.{fields}
-use Rattle.rules.specs.Claim.{Means}
-use Rattle.rules.specs.First.{holds}
-use Rattle.rules.proofs.ClaimLaws.{holds-means}
-use Rattle.shell.specs.Shell.{decimal}
+use Rattle.rules.proofs.First.{kept-of-first}
 use Rattle.image.specs.Image.{stated, version, copy, shellValues, B, S, e#, SCTL}
-use Rattle.verdict.proofs.Short.{no-bytes, digits-kept, pad-kept, secr-kept, all-kept, pad-at, last-in}
+use Rattle.shell.specs.Encode.{isrnRules}
+use Rattle.verdict.proofs.Short.{no-bytes, pad-kept, secr-kept, all-kept, pad-at, last-in}
 use Rattle.verdict.proofs.measure.number.Statement.{statement}
 use Rattle.verdict.proofs.measure.number.Tie as tie
 
--- where the numbers of the shell are read
+-- where the numbers of the shell are read, and where its sizes are judged
 abbrev read : tie.After-psi → tie.After-of-shell6
-read c = c .before .before .before .before .before .before .before .before .before .before .before .before .before .before .before .before .before .before .before .before .before .before
+read c = c .before .before .before .before .before .before .before .before .before .before .before .before .before .before .before .before
 
--- where all sizes are judged
-abbrev sized : tie.Else17 → tie.After-psi
+abbrev sized : tie.Else15 → tie.After-psi
 sized c = c .before .before .before .before .before .before .before
 
 bytes : (c : tie.After-of-shell6) → Bytes (c .before .before .before .before .before .before .before .before .before .args .image .now)
 bytes c k = c .before .before .before .before .before .before .before .before .shared-slice-known .given k .fits
-
-is-decimal : {b : Bool} (v : ℕ) → b ≡ holds (decimal 8 v) → not b ≡ false → Means (decimal 8 v)
-is-decimal {b} v e q = holds-means (decimal 8 v) (sym e ∙ not-false b q)
 
 judged-requires : tie.Need-judged-requires
 judged-requires c κs = search needs
@@ -95,11 +87,8 @@ judged-requires-5 c κs = search needs
 returns-5 : tie.Need-returns-5
 returns-5 c = search needs
 
-quad-requires : tie.Need-quad-requires
-quad-requires c κs = search needs
-
-decimal-requires : tie.Need-decimal-requires
-decimal-requires c κs = search needs
+load-requires-4 : tie.Need-load-requires-4
+load-requires-4 c κs = search needs
 
 judged-requires-6 : tie.Need-judged-requires-6
 judged-requires-6 c κs = search needs
@@ -107,11 +96,8 @@ judged-requires-6 c κs = search needs
 returns-6 : tie.Need-returns-6
 returns-6 c = search needs
 
-quad-requires-2 : tie.Need-quad-requires-2
-quad-requires-2 c κs = search needs
-
-decimal-requires-2 : tie.Need-decimal-requires-2
-decimal-requires-2 c κs = search needs
+load-requires-5 : tie.Need-load-requires-5
+load-requires-5 c κs = search needs
 
 judged-requires-7 : tie.Need-judged-requires-7
 judged-requires-7 c κs = search needs
@@ -119,17 +105,11 @@ judged-requires-7 c κs = search needs
 returns-7 : tie.Need-returns-7
 returns-7 c = search needs
 
-load-requires-4 : tie.Need-load-requires-4
-load-requires-4 c κs = search needs
-
 judged-requires-8 : tie.Need-judged-requires-8
 judged-requires-8 c κs = search needs
 
 returns-8 : tie.Need-returns-8
 returns-8 c = search needs
-
-load-requires-5 : tie.Need-load-requires-5
-load-requires-5 c κs = search needs
 
 judged-requires-9 : tie.Need-judged-requires-9
 judged-requires-9 c κs = search needs
@@ -143,26 +123,14 @@ judged-requires-10 c κs = search needs
 returns-10 : tie.Need-returns-10
 returns-10 c = search needs
 
+add-if11 : tie.Need-add-if11
+add-if11 c = search needs
+
 judged-requires-11 : tie.Need-judged-requires-11
 judged-requires-11 c κs = search needs
 
 returns-11 : tie.Need-returns-11
 returns-11 c = search needs
-
-judged-requires-12 : tie.Need-judged-requires-12
-judged-requires-12 c κs = search needs
-
-returns-12 : tie.Need-returns-12
-returns-12 c = search needs
-
-add-if13 : tie.Need-add-if13
-add-if13 c = search needs
-
-judged-requires-13 : tie.Need-judged-requires-13
-judged-requires-13 c κs = search needs
-
-returns-13 : tie.Need-returns-13
-returns-13 c = search needs
 
 psi-requires : tie.Need-psi-requires
 psi-requires c κs = search needs
@@ -171,40 +139,40 @@ sub-used : tie.Need-sub-used
 sub-used c = search needs
 
 mul-used : tie.Need-mul-used
-mul-used c = omega (arith, small (c .psi .result) (read (c) .before .before .of-shell4 .result - 3) (c .psi .ensures .1) (omega arith))
+mul-used c = omega (arith, small (c .psi .result) (read c .before .before .of-shell4 .result - 3) (c .psi .ensures .1) (omega arith))
 
-add-if14 : tie.Need-add-if14
-add-if14 c = omega (arith, small (c .psi .result) (read (c) .before .before .of-shell4 .result - 3) (c .psi .ensures .1) (omega arith))
+add-if12 : tie.Need-add-if12
+add-if12 c = omega (arith, small (c .psi .result) (read c .before .before .of-shell4 .result - 3) (c .psi .ensures .1) (omega arith))
+
+judged-requires-12 : tie.Need-judged-requires-12
+judged-requires-12 c κs = search needs
+
+returns-12 : tie.Need-returns-12
+returns-12 c = search needs
+
+mul-if13 : tie.Need-mul-if13
+mul-if13 c = search needs
+
+add-if13 : tie.Need-add-if13
+add-if13 c = search needs
+
+add-if13-2 : tie.Need-add-if13-2
+add-if13-2 c = search needs
+
+judged-requires-13 : tie.Need-judged-requires-13
+judged-requires-13 c κs = search needs
+
+returns-13 : tie.Need-returns-13
+returns-13 c = search needs
+
+sector-from-requires : tie.Need-sector-from-requires
+sector-from-requires c κs = search needs
 
 judged-requires-14 : tie.Need-judged-requires-14
 judged-requires-14 c κs = search needs
 
 returns-14 : tie.Need-returns-14
 returns-14 c = search needs
-
-mul-if15 : tie.Need-mul-if15
-mul-if15 c = search needs
-
-add-if15 : tie.Need-add-if15
-add-if15 c = search needs
-
-add-if15-2 : tie.Need-add-if15-2
-add-if15-2 c = search needs
-
-judged-requires-15 : tie.Need-judged-requires-15
-judged-requires-15 c κs = search needs
-
-returns-15 : tie.Need-returns-15
-returns-15 c = search needs
-
-sector-from-requires : tie.Need-sector-from-requires
-sector-from-requires c κs = omega (arith, read (c .before .before) .before .before .before .of-shell3 .ensures .1, read (c .before .before) .before .before .of-shell4 .ensures .1)
-
-judged-requires-16 : tie.Need-judged-requires-16
-judged-requires-16 c κs = search needs
-
-returns-16 : tie.Need-returns-16
-returns-16 c = search needs
 
 sub-sector-from : tie.Need-sub-sector-from
 sub-sector-from c = search needs
@@ -213,19 +181,19 @@ add-sector-from : tie.Need-add-sector-from
 add-sector-from c = search needs
 
 sector-from-requires-2 : tie.Need-sector-from-requires-2
-sector-from-requires-2 c κs = omega (arith, read (c .before .before .before .before) .before .before .before .of-shell3 .ensures .1, read (c .before .before .before .before) .before .before .of-shell4 .ensures .1, c .before .before .before .before .before .before .before .before .if10 .left)
+sector-from-requires-2 c κs = search needs
 
 add-last : tie.Need-add-last
 add-last c = search needs
 
 mul-last : tie.Need-mul-last
-mul-last c = omega (arith, read (c .before .before .before .before .before) .before .of-shell5 .ensures .1)
+mul-last c = search needs
 
 add-last-2 : tie.Need-add-last-2
-add-last-2 c = omega (arith, read (c .before .before .before .before .before) .before .of-shell5 .ensures .1, c .sector-from2 .ensures .1)
+add-last-2 c = search needs
 
 add-last-3 : tie.Need-add-last-3
-add-last-3 c = omega (arith, read (c .before .before .before .before .before) .before .of-shell5 .ensures .1, read (c .before .before .before .before .before) .of-shell6 .ensures .1, c .sector-from2 .ensures .1)
+add-last-3 c = search needs
 
 mul-closing : tie.Need-mul-closing
 mul-closing c = search needs
@@ -237,19 +205,29 @@ closing-requires : tie.Need-closing-requires
 closing-requires c κs =
     let p = c .before .before .before .before .before in
     let r = read p in
-    let l = last-in _ (r .before .before .of-shell4 .result) (r .before .before .before .of-shell3 .result) (r .before .before .before .before .before .before .load .result) (r .before .of-shell5 .result) (r .of-shell6 .result) (omega arith) (omega arith) (omega arith) (c .before .if16 .left ∙ c .before .before .sector-from .ensures .0) in
+    let l = last-in _ (r .before .before .of-shell4 .result) (r .before .before .before .of-shell3 .result) (r .before .before .before .before .before .before .load .result) (r .before .of-shell5 .result) (r .of-shell6 .result) (omega arith) (omega arith) (omega arith) (c .before .if14 .left ∙ c .before .before .sector-from .ensures .0) in
     omega (arith, l, c .sector-from2 .ensures .0)
 
-judged-requires-17 : tie.Need-judged-requires-17
-judged-requires-17 c κs = search needs
+judged-requires-15 : tie.Need-judged-requires-15
+judged-requires-15 c κs = search needs
+
+returns-15 : tie.Need-returns-15
+returns-15 c = search needs
+
+judge-isrn-requires : tie.Need-judge-isrn-requires
+judge-isrn-requires c κs = omega (arith, read (sized c) .before .before .before .before .before .before .before .if1 .left)
+
+judged-requires-16 : tie.Need-judged-requires-16
+judged-requires-16 c κs = search needs
+
+returns-16 : tie.Need-returns-16
+returns-16 c = search needs
 
 returns-17 : tie.Need-returns-17
-returns-17 c = search needs
-
-returns-18 : tie.Need-returns-18
 unfolding stated version copy B S e# SCTL shellValues fields
-returns-18 c =
-    let p = sized c in
+returns-17 c =
+    let d = c .before .before in
+    let p = sized d in
     let r = read p in
     let m = r .before .before .before .before .before .before .before .before .before .args .image .now in
     let b = r .before .before .before .of-shell3 in
@@ -263,27 +241,26 @@ returns-18 c =
     let et : t .result ≡ SCTL m = t .ensures .0 in
     let ek : k .result ≡ copy m = k .ensures in
     let eu : p .psi .result * (s .result - 3) ≡ Ψ (S m) * (S m - 3) = ap₂ (λ (x y : ℕ). x * (y - 3)) (p .psi .ensures .0 ∙ ap Ψ es) es in
-    let blocks = sym (r .before .before .before .before .before .of-shell .ensures .0) ∙ c .before .before .before .before .before .before .before .before .before .before .before .before .before .before .before .before .before .before .before .before .before .before .before .before .before .before .before .before .if2 .left in
+    let blocks = sym (r .before .before .before .before .before .of-shell .ensures .0) ∙ p .before .before .before .before .before .before .before .before .before .before .before .before .before .before .before .if2 .left in
     let long : 36 ≤ length m = omega (arith, r .before .before .before .before .before .before .before .if1 .left) in
-    let table : SCTL m ≡ (Ψ (S m) * (S m - 3) + 7) / 8 = sym et ∙ c .before .before .before .before .before .before .if14 .left ∙ ap (λ (x : ℕ). (x + 7) / 8) eu in
+    let table : SCTL m ≡ (Ψ (S m) * (S m - 3) + 7) / 8 = sym et ∙ d .before .before .before .before .before .before .if12 .left ∙ ap (λ (x : ℕ). (x + 7) / 8) eu in
     let q : (s .result - 2 + k .result) * b .result ≡ (S m - 2 + copy m) * B m = ap₂ (λ (x y : ℕ). x * y) (ap₂ (λ (x y : ℕ). x - 2 + y) es ek) eb in
-    let last : c .before .before .sector-from2 .result + 1 + 5 * e .result + t .result ≡ 4 + (S m - 2 + copy m) * B m + 1 + 5 * e# m + SCTL m = omega (arith, c .before .before .sector-from2 .ensures .0, q, ee, et) in
+    let last : d .before .before .sector-from2 .result + 1 + 5 * e .result + t .result ≡ 4 + (S m - 2 + copy m) * B m + 1 + 5 * e# m + SCTL m = omega (arith, d .before .before .sector-from2 .ensures .0, q, ee, et) in
     all-kept m (bytes r) long blocks
-    (sym (c .before .before .before .before .before .before .before .before .before .before .before .before .before .before .before .load4 .ensures) ∙ c .before .before .before .before .before .before .before .before .before .before .before .before .before .before .if8 .left)
-    (sym (c .before .before .before .before .before .before .before .before .before .before .before .before .before .load5 .ensures) ∙ c .before .before .before .before .before .before .before .before .before .before .before .before .if9 .left)
-    (omega (arith, ek, c .before .before .before .before .before .before .before .before .before .before .before .if10 .left))
-    (sym (r .before .before .before .before .of-shell2 .ensures .0) ∙ c .before .before .before .before .before .before .before .before .before .before .before .before .before .before .before .before .before .before .before .before .before .before .if5 .left)
-    (omega (arith, eb, c .before .before .before .before .before .before .before .before .before .before .if11 .left))
-    (omega (arith, ee, c .before .before .before .before .before .before .before .before .before .if12 .left))
-    (omega (arith, ee, es, c .before .before .before .before .before .before .before .before .if13 .left))
+    (sym (p .before .before .before .before .before .before .before .before .load4 .ensures) ∙ p .before .before .before .before .before .before .before .if6 .left)
+    (sym (p .before .before .before .before .before .before .load5 .ensures) ∙ p .before .before .before .before .before .if7 .left)
+    (omega (arith, ek, p .before .before .before .before .if8 .left))
+    (sym (r .before .before .before .before .of-shell2 .ensures .0) ∙ p .before .before .before .before .before .before .before .before .before .if5 .left)
+    (omega (arith, eb, p .before .before .before .if9 .left))
+    (omega (arith, ee, p .before .before .if10 .left))
+    (omega (arith, ee, es, p .before .if11 .left))
     table
-    (omega (arith, eb, ee, et, c .before .before .before .before .before .if15 .left))
-    (c .before .before .before .if16 .left ∙ c .before .before .before .before .sector-from .ensures .0 ∙ ap₂ (λ (x y : ℕ). 4 + x * y) es eb)
-    (pad-kept m (bytes r) long blocks (sym (c .before .before .before .before .before .before .before .before .before .before .before .before .before .before .before .before .before .before .before .before .before .before .before .before .before .before .before .load2 .ensures) ∙ c .before .before .before .before .before .before .before .before .before .before .before .before .before .before .before .before .before .before .before .before .before .before .before .before .before .before .if3 .left))
-    (secr-kept m (bytes r) long blocks (sym (c .before .before .before .before .before .before .before .before .before .before .before .before .before .before .before .before .before .before .before .before .before .before .before .before .load3 .ensures) ∙ sym (c .before .before .before .before .before .before .before .before .before .before .before .before .before .before .before .before .before .before .before .before .before .before .before .if4 .left) ∙ c .before .before .before .before .before .before .before .before .before .before .before .before .before .before .before .before .before .before .before .before .before .before .before .before .before .of-22 .ensures))
-    (digits-kept m (bytes r) long (c .before .before .before .before .before .before .before .before .before .before .before .before .before .before .before .before .before .before .before .before .before .quad .result) (c .before .before .before .before .before .before .before .before .before .before .before .before .before .before .before .before .before .before .quad2 .result) (c .before .before .before .before .before .before .before .before .before .before .before .before .before .before .before .before .before .before .before .before .before .quad .ensures .0) (c .before .before .before .before .before .before .before .before .before .before .before .before .before .before .before .before .before .before .quad2 .ensures .0)
-    (is-decimal _ (c .before .before .before .before .before .before .before .before .before .before .before .before .before .before .before .before .before .before .before .before .decimal .ensures) (c .before .before .before .before .before .before .before .before .before .before .before .before .before .before .before .before .before .before .before .if6 .left)) (is-decimal _ (c .before .before .before .before .before .before .before .before .before .before .before .before .before .before .before .before .before .decimal2 .ensures) (c .before .before .before .before .before .before .before .before .before .before .before .before .before .before .before .before .if7 .left)))
-    (pad-at m (omega arith) (omega arith) last (ap₂ (λ (x y : ℕ). 8 * x - y) et eu) (sym (c .before .closing .ensures) ∙ c .if17 .left))
+    (omega (arith, eb, ee, et, d .before .before .before .before .before .if13 .left))
+    (d .before .before .before .if14 .left ∙ d .before .before .before .before .sector-from .ensures .0 ∙ ap₂ (λ (x y : ℕ). 4 + x * y) es eb)
+    (pad-kept m (bytes r) long blocks (sym (p .before .before .before .before .before .before .before .before .before .before .before .before .before .before .load2 .ensures) ∙ p .before .before .before .before .before .before .before .before .before .before .before .before .before .if3 .left))
+    (secr-kept m (bytes r) long blocks (sym (p .before .before .before .before .before .before .before .before .before .before .before .load3 .ensures) ∙ sym (p .before .before .before .before .before .before .before .before .before .before .if4 .left) ∙ p .before .before .before .before .before .before .before .before .before .before .before .before .of-22 .ensures))
+    (kept-of-first (isrnRules (shellValues m)) (omega arith) (sym (c .before .judge-isrn .ensures) ∙ c .if16 .left))
+    (pad-at m (omega arith) (omega arith) last (ap₂ (λ (x y : ℕ). 8 * x - y) et eu) (sym (d .before .closing .ensures) ∙ d .if15 .left))
 
 pub number-spec : {M : Type 1} → statement M
 number-spec =
@@ -309,43 +286,35 @@ number-spec =
     returns-4
     judged-requires-5
     returns-5
-    quad-requires
-    decimal-requires
+    load-requires-4
     judged-requires-6
     returns-6
-    quad-requires-2
-    decimal-requires-2
+    load-requires-5
     judged-requires-7
     returns-7
-    load-requires-4
     judged-requires-8
     returns-8
-    load-requires-5
     judged-requires-9
     returns-9
     judged-requires-10
     returns-10
+    add-if11
     judged-requires-11
     returns-11
-    judged-requires-12
-    returns-12
-    add-if13
-    judged-requires-13
-    returns-13
     psi-requires
     sub-used
     mul-used
-    add-if14
+    add-if12
+    judged-requires-12
+    returns-12
+    mul-if13
+    add-if13
+    add-if13-2
+    judged-requires-13
+    returns-13
+    sector-from-requires
     judged-requires-14
     returns-14
-    mul-if15
-    add-if15
-    add-if15-2
-    judged-requires-15
-    returns-15
-    sector-from-requires
-    judged-requires-16
-    returns-16
     sub-sector-from
     add-sector-from
     sector-from-requires-2
@@ -356,6 +325,9 @@ number-spec =
     mul-closing
     sub-closing
     closing-requires
-    judged-requires-17
-    returns-17
-    returns-18)
+    judged-requires-15
+    returns-15
+    judge-isrn-requires
+    judged-requires-16
+    returns-16
+    returns-17)

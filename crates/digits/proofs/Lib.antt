@@ -1,0 +1,5 @@
+pub mod Nibbles
+pub mod Bytewise
+pub mod Joined
+pub mod Luhn
+pub mod Examples
