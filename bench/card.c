@@ -652,3 +652,26 @@ card_answer card_touched(const u8 *before, size_t before_length, const u8 *after
     }
     return TAKEN;
 }
+
+/* ---- dates, without a list of months: in quarters of a day a year has 1,461 and February 113, seven fewer than thirty days */
+
+card_date card_date_of(u64 stamp)
+{
+    if (UNLIKELY(stamp > 16383)) return (card_date){ 30, 0, 0, 0, 0 };
+    u32 quarters = ((u32)(stamp + 16383) % 16384 + 1) * 4 + 2917620, past = quarters % 1461;
+    u32 months = (past < 237 ? past : past + 7) / 4 * 67 + 2075;
+    return (card_date){ 0, 0, quarters / 1461, months / 2048, months % 2048 / 67 + 1 };
+}
+
+#define NO_STAMP(when) do { if (UNLIKELY(when)) return (card_stamp){ 29, 0, 0 }; } while (0)
+
+card_stamp card_stamp_of(u64 year, u64 month, u64 day)
+{
+    NO_STAMP(month - 1 > 11);
+    u32 y = (u32)year, m = (u32)month, d = (u32)day;
+    if (UNLIKELY(day - 1 > 27))
+        NO_STAMP(m == 2 ? day != 29 || y % 4 != 0 : day - 1 >= (30 | (m ^ m >> 3)));
+    if (UNLIKELY(year - 1998 > 42)) /* in 1997 from 2 January on, in 2041 up to 10 November */
+        NO_STAMP(year == 1997 ? m + d < 3 : year != 2041 || 32 * m + d > 362);
+    return (card_stamp){ 0, 0, ((1461 * y + (m < 3 ? 7 : 0)) / 4 + (489 * m - 480) / 16 + d - 729407) % 16384 };
+}

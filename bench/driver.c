@@ -4,6 +4,7 @@
                          revision 3; the worst cards; two equal large cards compared
      driver growth       pairs of calls, and by how much the second has more of something
      driver nasty        a check of each nasty card
+     driver dates        the date of each stamp, the stamp of each date, and each date of 1996 to 2043 that has none
      driver same FROM N  every call on N cards damaged at random, uncounted */
 #include "cards.h"
 
@@ -56,6 +57,23 @@ static void row(const char *name, const char *card, size_t calls)
     add_bytes(buffer, sizeof buffer);
     printf("%s\t%s\t%lu\t%lx\n", name, card, calls, sum);
     sum = 0;
+}
+
+/* The stamps of the dates of 1996 to 2043, of those that have one or of those that have none. Part of main, whose instructions are not counted. */
+static inline __attribute__((always_inline)) size_t count_stamps(int has_stamp)
+{
+    size_t calls = 0;
+    for (uint64_t y = 1996; y < 2044; y++)
+        for (uint64_t m = 0; m < 14; m++)
+            for (uint64_t d = 0; d < 33; d++) {
+                card_stamp s = card_stamp_of(y, m, d);
+                if ((s.number == 0) == has_stamp) {
+                    COUNTED(s = card_stamp_of(y, m, d));
+                    calls++;
+                }
+                add(s.number), add(s.entry), add(s.stamp);
+            }
+    return calls;
 }
 
 /* Every entry and every field have their turn. */
@@ -294,6 +312,19 @@ int main(int argc, char **argv)
                     COUNTED(a = card_check(image, length));
                     printf("S %lu, e# %lu, %s, %s: %lu at %lu\n", s, entries, shapes[shape], tails[tail], a.number, a.entry);
                 }
+    if (!strcmp(work, "dates")) {
+        card_date d;
+        for (uint64_t stamp = 0; stamp < 16384; stamp++) {
+            COUNTED(d = card_date_of(stamp));
+            add(d.number), add(d.entry), add(d.year), add(d.month), add(d.day);
+        }
+        row("date", "each stamp", 16384);
+        COUNTED(d = card_date_of(16384));
+        add(d.number), add(d.entry), add(d.year), add(d.month), add(d.day);
+        row("date", "refused: 30", 1);
+        row("stamp", "each date that has one", count_stamps(1));
+        row("stamp", "refused: 29", count_stamps(0));
+    }
     if (!strcmp(work, "same"))
         for (size_t from = atoi(argv[2]), n = from; n < from + atoi(argv[3]); n++) {
             state = n;

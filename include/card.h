@@ -13,6 +13,7 @@
 
    The library takes no heap and has no data that can be written, so that it keeps nothing from one call to the next: calls may run in several
    tasks at once, as long as none writes what another one uses. From outside it needs memcpy and memset, and nothing else.
+   card_date_of and card_stamp_of have no constant data either: a program that takes only these gets no constants with them.
 
    Link with the static library that `rt staticlib capi` writes. It is for x86-64: structs are laid out, passed and returned as the System V
    interface has C do it. This header is C from C89 on, given a stdint.h, and C++. */
@@ -22,7 +23,7 @@
    card_read_ticket 1152, card_fill 912, card_write_field 752, card_write_record 784, card_mark 736, card_touched 864, card_record_set 1024,
    card_record_value 264, card_encode_shell 216, card_decode_shell 272, card_encode_entry 56, card_decode_entry 8, card_encode_head 8,
    card_decode_head 8, card_encode_tail 40, card_decode_tail 8, card_encode_header 8, card_decode_header 8, card_encode_ticket 464,
-   card_decode_ticket 432, card_encode_table 104, card_decode_table 568, card_date_of 48, card_stamp_of 80. */
+   card_decode_ticket 432, card_encode_table 104, card_decode_table 568, card_date_of 8, card_stamp_of 8. */
 #ifndef CARD_H
 #define CARD_H
 

@@ -21,11 +21,11 @@ pub record Stampable (d : Date) : Type 0 where
   pub from : 1 ≤ dayNumber d
   pub to : dayNumber d ≤ 16384
 
-pub first-number : dayNumber (date 1997 1 2) ≡ 1
+first-number : dayNumber (date 1997 1 2) ≡ 1
 unfolding dayNumber newYear daysBefore monthDays leap
 first-number = refl
 
-pub last-number : dayNumber (date 2041 11 10) ≡ 16384
+last-number : dayNumber (date 2041 11 10) ≡ 16384
 unfolding dayNumber newYear daysBefore monthDays leap
 last-number = refl
 
@@ -82,10 +82,10 @@ possible? d =
       ]
     ]
 
-pub early : (d : Date) → Counted d → dayNumber d < 1 → Unstamped d
+early : (d : Date) → Counted d → dayNumber d < 1 → Unstamped d
 early d h l = too-early (earlier-by d (date 1997 1 2) h first-counted (omega (arith, first-number)))
 
-pub late : (d : Date) → Counted d → 16384 < dayNumber d → Unstamped d
+late : (d : Date) → Counted d → 16384 < dayNumber d → Unstamped d
 late d h l = too-late (earlier-by (date 2041 11 10) d last-counted h (omega (arith, last-number)))
 
 pub data Sorted (d : Date) : Type 0 where

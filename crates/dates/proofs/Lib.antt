@@ -1,14 +1,14 @@
 pub mod Joined
 pub mod Every
 pub mod Months
-pub mod Listed
-pub mod MonthHolds
 pub mod Years
+pub mod Thirty
 pub mod Days
 pub mod Order
 pub mod Stamps
 pub mod Search
 pub mod Bounds
+pub mod Added
 pub mod ReadOff
 pub mod Judged
 pub mod Exactly

@@ -1,14 +1,17 @@
 -- The days before a month and of a month: each fact is computed once for the months of a common year and once for those of a leap year.
 -- Assumes nothing.
 use mathlib.Core.Path.{_≡_, refl, ap}
-use mathlib.Core.Bool.{Bool, true, false, _||_}
+use mathlib.Core.Bool.{Bool, true, false, _||_, cond}
+use mathlib.Core.Logic.{_≢_}
 use mathlib.Core.List.{List}
-use Prim.Native.Nat.{ℕ, zero, suc, _+_, _-_, _≤_, _<_}
+use Prim.Native.Nat.{ℕ, zero, suc, _+_, _-_, _/_, _%_, _≤_, _<_}
 use native.Mathlib.Numerals.{add-one}
 use native.Mathlib.Omega.{arith}
-use lib.Dec.{T, leb, leb→le, ltb}
+use native.Mathlib.Decide.{decLt}
+use lib.Dec.{T, eqb, eqb→eq, leb, leb→le, ltb}
 use lib.ListN.{getD, List·getD-eq-default}
 use borrow.Author.Tests.{ltb-true, ltb-false}
+use mir.Val.{boolByte}
 use Rattle.dates.specs.Calendar.{leap, months, monthDays}
 use Rattle.dates.specs.Counting.{daysBefore}
 use Rattle.dates.proofs.Joined.{either, neither}
@@ -37,10 +40,6 @@ pub in-either : (n : ℕ) (f : Bool → ℕ → Bool) → T (every n (f true)) �
 in-either n f t u true k h = from-every n (f true) t k h
 in-either n f t u false k h = from-every n (f false) u k h
 
--- no month begins after the 366th day
-pub before-most : (y m : ℕ) → m ≤ 13 → daysBefore y m ≤ 366
-before-most y m h = rw (before-total y m) (leb→le _ _ (in-either 14 (λ l k. leb (total (months l) k) 366) tt tt (leap y) m (omega arith)))
-
 -- only the numbers 1 to 12 are months
 no-zeroth : (y m : ℕ) → m < 1 → monthDays y m ≡ 0
 unfolding monthDays
@@ -57,12 +56,24 @@ no-month y m = either (ltb m 1) (ltb 12 m) (λ t. no-zeroth y m (ltb-true m 1 t)
 pub a-month : (m : ℕ) → ltb m 1 || ltb 12 m ≡ false → (1 ≤ m) × (m ≤ 12)
 a-month m e = let (a, b) = neither (ltb m 1) (ltb 12 m) e in omega (arith, ltb-false)
 
-pub has-days : (y m : ℕ) → 1 ≤ monthDays y m → (1 ≤ m) × (m ≤ 12)
-has-days y m h = go (ltb m 1 || ltb 12 m) refl
+-- February has a day more in a leap year; of the others the odd ones have 31 days up to July, and from August on the even ones
+pub february : (y : ℕ) → monthDays y 2 ≡ 28 + boolByte (leap y)
+unfolding monthDays
+february y = go (leap y)
   where
-    go : (b : Bool) → ltb m 1 || ltb 12 m ≡ b → (1 ≤ m) × (m ≤ 12)
-    go true e = absurd (omega (arith, no-month y m e))
-    go false e = a-month m e
+    go : (l : Bool) → cond l 29 28 ≡ 28 + boolByte l
+    go true = refl
+    go false = refl
+
+pub other-month : (y m : ℕ) → 1 ≤ m → m ≤ 12 → m ≢ 2 → monthDays y m ≡ 30 + (m + m / 8) % 2
+unfolding monthDays
+other-month y m h k n =
+    elim (decLt m 3) [
+      | yes l ↦ let e : m ≡ 1 = omega (arith, n) in rw e
+      | no l ↦
+          let e : m ≡ m - 3 + 3 = omega arith in
+          rw e (eqb→eq _ _ (in-either 10 (λ l i. eqb (getD (months l) (i + 3) 0) (30 + (i + 3 + (i + 3) / 8) % 2)) tt tt (leap y) (m - 3) (omega arith)))
+    ]
 
 -- a month has 28 to 31 days
 pub month-least : (y m : ℕ) → 1 ≤ m → m ≤ 12 → 28 ≤ monthDays y m

@@ -1,8 +1,10 @@
-// The calendar of 1997 to 2041, by arithmetic and the list of days before each month.
+// The calendar of 1997 to 2041, by arithmetic alone. In quarters of a day a year has 1,461 and February 113, seven fewer than thirty days have: counted
+// so, a leap day comes by itself. And as though February had thirty days, the days before each month lie on a line, and so does the month of each day.
 ghost use mathlib.Core.Path.{_≡_};
-ghost use Prim.Native.Nat.{_-_, _≤_, _<_};
-ghost use Rattle.dates.specs.Calendar.{leap, monthDays, onDay};
-ghost use Rattle.dates.specs.Counting.{daysBefore, newYear, Counted, dayNumber, InYear, InMonth};
+ghost use Prim.Native.Nat.{_≤_};
+ghost use lib.Dec.{eqb};
+ghost use Rattle.dates.specs.Calendar.{onDay, stampOf};
+ghost use Rattle.dates.specs.Counting.{Counted, dayNumber};
 
 // A date, possible or not.
 pub struct Date {
@@ -11,71 +13,45 @@ pub struct Date {
     pub day: u64,
 }
 
-// The days of a common year before each month, and last all its days.
-const BEFORE: [u16; 13] = [0, 31, 59, 90, 120, 151, 181, 212, 243, 273, 304, 334, 365];
-
-// Every fourth year, but a hundredth one only where it is a four hundredth.
-fn is_leap(year: u64) -> bool
-    ensures { λ r. ⌜ r ≡ leap year ⌝ }
-{
-    (year % 4 == 0) & ((year % 100 != 0) | (year % 400 == 0))
-}
-
-// The days of the year before its month; before month 13, all its days.
-fn days_before(year: u64, month: u64) -> u64
-    requires { ⌜ (1 ≤ month) × (month ≤ 13) ⌝ }
-    ensures { λ r. ⌜ r ≡ daysBefore year month ⌝ }
-{
-    let i = (month - 1) as usize;
-    BEFORE[i] as u64 + ((2 < month) & is_leap(year)) as u64
-}
-
-// The days of a month; 0 where there is no such month.
-pub fn month_days(year: u64, month: u64) -> u64
-    ensures { λ r. ⌜ r ≡ monthDays year month ⌝ }
+// Whether a date has a stamp: the calendar has it, and it is from 2 January 1997 to 10 November 2041.
+pub fn has_stamp(year: u64, month: u64, day: u64) -> bool
+    ensures { λ r. ⌜ r ≡ eqb (stampOf year month day .number) 0 ⌝ }
 {
     if (month < 1) | (12 < month) {
-        return 0;
+        return false;
     }
-    days_before(year, month + 1) - days_before(year, month)
+    // every month has 28 days, February in every fourth of these years 29; of the others the odd ones up to July have 31, and then the even ones
+    if (day < 1) | (28 < day) {
+        if month == 2 {
+            if (day != 29) | (year % 4 != 0) {
+                return false;
+            }
+        } else if (day < 1) | (30 + (month + month / 8) % 2 < day) {
+            return false;
+        }
+    }
+    if (1998 <= year) & (year <= 2040) {
+        return true;
+    }
+    // in 1997 from 2 January on, in 2041 up to 10 November
+    if year == 1997 {
+        return 2 < month + day;
+    }
+    if year == 2041 {
+        return 32 * month + day <= 362;
+    }
+    false
 }
 
-// The day number of 1 January.
-fn new_year(year: u64) -> u64
-    requires { ⌜ (1997 ≤ year) × (year ≤ 2041) ⌝ }
-    ensures { λ r. ⌜ r ≡ newYear (year - 1997) ⌝ }
-{
-    (year - 1997) * 1461 / 4
-}
-
-// The day number of a date.
+// The day number of a date. The sum is 729,407 for 1 January 1997, day 0.
 pub fn day_number(d: Date) -> u64
     requires { ⌜ Counted d ⌝ }
     requires { ⌜ d .year ≤ 2041 ⌝ }
     ensures { λ r. ⌜ r ≡ dayNumber d ⌝ }
 {
-    new_year(d.year) + days_before(d.year, d.month) + (d.day - 1)
-}
-
-// The year that holds the day `n`.
-fn year_of(n: u64) -> u64
-    requires { ⌜ n ≤ 16384 ⌝ }
-    ensures { λ r. ⌜ InYear n r ⌝ }
-{
-    1997 + (4 * n + 3) / 1461
-}
-
-// The month of the year that holds its day `d`, counted from 0: as no month has 32 days, the one tried first or the next.
-fn month_of(year: u64, d: u64) -> u64
-    requires { ⌜ d < daysBefore year 13 ⌝ }
-    ensures { λ r. ⌜ InMonth year d r ⌝ }
-{
-    let guess = d / 32 + 1;
-    if d < days_before(year, guess + 1) {
-        guess
-    } else {
-        guess + 1
-    }
+    // up to February, seven quarters more than from March on
+    let more = if d.month < 3 { 7 } else { 0 };
+    (1461 * d.year + more) / 4 + (489 * d.month - 480) / 16 + d.day - 729407
 }
 
 // The date of the day `n`.
@@ -83,12 +59,17 @@ pub fn on_day(n: u64) -> Date
     requires { ⌜ n ≤ 16384 ⌝ }
     ensures { λ r. ⌜ r ≡ onDay n ⌝ }
 {
-    let year = year_of(n);
-    let d = n - new_year(year);
-    let month = month_of(year, d);
+    // the day's last quarter, from year 0 on: a day is of the year that its last quarter lies in
+    let quarters = 4 * n + 2917620;
+    let year = quarters / 1461;
+    let past = quarters - 1461 * year;
+    // from March on, seven quarters more: February filled up to thirty days
+    let filled = if past < 237 { past } else { past + 7 };
+    // parts of a month, 2,048 to each, and 67 to a day
+    let parts = 67 * (filled / 4) + 2075;
     Date {
         year,
-        month,
-        day: d - days_before(year, month) + 1,
+        month: parts / 2048,
+        day: parts % 2048 / 67 + 1,
     }
 }

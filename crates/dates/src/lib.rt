@@ -6,7 +6,7 @@ mod calendar;
 
 use calendar::Date;
 use calendar::day_number;
-use calendar::month_days;
+use calendar::has_stamp;
 use calendar::on_day;
 
 // The date of a stamp; zeros where refused.
@@ -61,24 +61,17 @@ pub fn date(stamp: u64) -> Dated
 pub fn stamp(year: u64, month: u64, day: u64) -> Stamped
     ensures { λ r. ⌜ r ≡ stampOf year month day ⌝ }
 {
-    if (year < 1997) | (2041 < year) | (day < 1) | (month_days(year, month) < day) {
+    if has_stamp(year, month, day) {
+        let n = day_number(Date { year, month, day });
         return Stamped {
-            number: rules::NO_DATE,
+            number: 0,
             entry: 0,
-            stamp: 0,
-        };
-    }
-    let n = day_number(Date { year, month, day });
-    if (n < 1) | (16384 < n) {
-        return Stamped {
-            number: rules::NO_DATE,
-            entry: 0,
-            stamp: 0,
+            stamp: n % 16384,
         };
     }
     Stamped {
-        number: 0,
+        number: rules::NO_DATE,
         entry: 0,
-        stamp: n % 16384,
+        stamp: 0,
     }
 }

@@ -1,37 +1,56 @@
--- `calendar::day_number` meets its contract: it adds what the definition adds, and the sum is small. Assumes nothing.
-use Prim.Native.Nat.{_-_}
+-- `calendar::day_number` meets its contract: where the two ways meet, the sum is the date's number and 729,407. Assumes nothing.
+use mathlib.Core.Path.{_≡_, ap, _∙_}
+use mathlib.Core.Logic.{⊎-elim}
+use Prim.Native.Nat.{ℕ, _+_, _-_, _*_, _/_, _≤_}
 use native.Mathlib.Omega.{arith}
 use borrow.Author.Needs.{needs}
 use Rattle.dates.specs.Counting.{dayNumber}
-use Rattle.dates.proofs.Months.{before-most, month-most}
-use Rattle.dates.proofs.Years.{new-year-most}
+use Rattle.dates.proofs.Months.{month-most}
+use Rattle.dates.proofs.Added.{sum-early, sum-late}
 use Rattle.dates.proofs.calendar.day_number.Statement.{statement}
 use Rattle.dates.proofs.calendar.day_number.Tie as tie
 
-new-year-requires : tie.Need-new-year-requires
-new-year-requires c κs = search needs
+sum : (j : tie.Joined1) → let d = j .before .before .args .d in (1461 * d .year + j .if1 .more) / 4 + (489 * d .month - 480) / 16 + d .day ≡ dayNumber d + 729407
+sum j =
+    let d = j .before .before .args .d in
+    let pre = j .before .before .pre in
+    let with : ℕ → ℕ = λ q. (1461 * d .year + q) / 4 + (489 * d .month - 480) / 16 + d .day in
+    ⊎-elim
+    (λ w. ap with (w .1) ∙ sum-early d (pre .0) (pre .1) (w .0 .taken))
+    (λ w. ap with (w .1) ∙ sum-late d (pre .0) (pre .1) (w .0 .left))
+    (j .if1 .came)
 
-days-before-requires : tie.Need-days-before-requires
-days-before-requires c κs = search needs
+small : (j : tie.Joined1) → j .if1 .more ≤ 7
+small j = ⊎-elim (λ w. omega arith) (λ w. omega arith) (j .if1 .came)
+
+mul-result : tie.Need-mul-result
+mul-result c = search needs
 
 add-result : tie.Need-add-result
-add-result c =
-    let d = c .before .before .args .d in
-    omega (arith, new-year-most (d .year - 1997) (omega arith), before-most (d .year) (d .month) (omega arith))
+add-result c = omega (arith, small (c .before .before))
+
+mul-result-2 : tie.Need-mul-result-2
+mul-result-2 c = search needs
 
 sub-result : tie.Need-sub-result
 sub-result c = search needs
 
 add-result-2 : tie.Need-add-result-2
-add-result-2 c =
-    let d = c .before .before .before .args .d in
-    omega (arith, new-year-most (d .year - 1997) (omega arith), before-most (d .year) (d .month) (omega arith), month-most (d .year) (d .month) (omega arith))
+add-result-2 c = search needs
+
+add-result-3 : tie.Need-add-result-3
+add-result-3 c =
+    let j = c .before .before .before .before in
+    let d = j .before .before .args .d in
+    omega (arith, small j, month-most (d .year) (d .month) (omega arith))
+
+sub-result-2 : tie.Need-sub-result-2
+sub-result-2 c = omega (arith, sum (c .before .before .before .before))
 
 returns : tie.Need-returns
-unfolding dayNumber
-returns c = omega arith
+returns c = omega (arith, sum (c .before .before .before .before))
 
 pub day-number-spec : {M : Type 1} → statement M
 day-number-spec =
     tie.close
-    (tie.spec new-year-requires days-before-requires add-result sub-result add-result-2 returns)
+    (tie.spec mul-result add-result mul-result-2 sub-result add-result-2 add-result-3 sub-result-2 returns)
