@@ -14,10 +14,7 @@ int memcmp(const void *, const void *, size_t);
 #define STAGE static __attribute__((noinline))
 #define RARE static __attribute__((noinline, cold))
 #define UNLIKELY(x) __builtin_expect(!!(x), 0)
-#define REFUSE(when, code) do { if (UNLIKELY(when)) return (code); } while (0)
-
-/* A code is 0, or number | entry << 8 | cause << 16: of a rule of the image with its cause, of 10 and 11 without. */
-#define CODE(number, cause) ((number) | (cause) << 16)
+#define REFUSE(when, number) do { if (UNLIKELY(when)) return (number); } while (0)
 
 /* ---- words at any address: a copy of fixed size is one load or store */
 
@@ -151,9 +148,6 @@ wrong:
     return explain_chains(image + v->entries, before, v->S, v->e, psi);
 }
 
-/* A digit above 9 has its 8 and its 4 or 2 set: the 8 of each such digit. */
-INLINE u64 above_9(u64 digits) { return digits & (digits << 1 | digits << 2) & 0x8888888888888888; }
-
 /* The second digits of the bytes and their first ones doubled, all added up but for tens: where a double is above 9, 9 less is 1 more. */
 INLINE u32 luhn(u64 bytes)
 {
@@ -180,50 +174,46 @@ STAGE u32 check_data(const u8 *image, u64 want, struct view *v)
         r = crc_word(r, p);
     }
     padding |= le16(p);
-    REFUSE((crc_half(r, p) ^ 0xFFFF) != be16(p + 2), CODE(7, CARD_CHECKSUM));
+    REFUSE((crc_half(r, p) ^ 0xFFFF) != be16(p + 2), 7);
 
-    /* the ISRN is bytes 2 to 10 of the shell, two digits to a byte; which of its four parts it is, card_why asks */
+    /* the ISRN is bytes 2 to 10 of the shell, two digits to a byte: one above 9 has its 8 and its 4 or 2 set */
     u64 d = le64(image + 7);
     u32 first = image[6];
-    REFUSE(above_9(d) != 0, CODE(8, CARD_IIN));
-    REFUSE((above_9(first) & 0x88) != 0, CODE(8, CARD_IIN));
-    REFUSE(padding != 0, CODE(8, CARD_PADDING));
-    REFUSE((luhn(d) + luhn(first)) % 10 != 0, CODE(12, CARD_CHECK_DIGIT));
+    REFUSE((d & (d << 1 | d << 2) & 0x8888888888888888) != 0, 8);
+    REFUSE((first & (first << 1 | first << 2) & 0x88) != 0, 8);
+    REFUSE(padding != 0, 8);
+    REFUSE((luhn(d) + luhn(first)) % 10 != 0, 12);
 
     u32 unused = -(v->S - 3) * v->psi & 7;
-    REFUSE((image[v->before + image[23]] & ((1u << unused) - 1)) != 0, CODE(9, CARD_TABLE_PADDING));
+    REFUSE((image[v->before + image[23]] & ((1u << unused) - 1)) != 0, 9);
     return v->psi == 8 ? check_chains_of_bytes(image, want, v) : check_chains(image, want, v);
 }
 
 RARE u32 explain_header(const u8 *image, size_t length)
 {
-    return length < 4           ? CODE(1, CARD_SHORT)
-        : be16(image) != length ? CODE(1, CARD_LENGTH)
-        : image[2] != 1         ? CODE(2, CARD_VERSION)
-        : image[3] > 1          ? CODE(3, CARD_COPY)
-                                : CODE(4, CARD_NO_SHELL);
+    return length < 4 || be16(image) != length ? 1 : image[2] != 1 ? 2 : image[3] > 1 ? 3 : 4;
 }
 
-/* 1 to 8, 12 and 9 to 11 in order, as a code; 0 if the image is accepted. */
+/* 1 to 8, 12 and 9 to 11 in order, as number | entry << 8; 0 if the image is accepted. */
 STAGE u32 validate(const u8 *image, size_t length, u64 want, struct view *v)
 {
     /* length, version 1, copy 0 or 1, in one word */
     if (UNLIKELY(length < 36) || UNLIKELY((be32(image) ^ ((u64)length << 16 | 0x100)) > 1)) return explain_header(image, length);
 
     const u8 *shell = image + 4;
-    REFUSE((be16(shell) & 0x3F0) != 0, CODE(5, CARD_BIT_MAP));
+    REFUSE((be16(shell) & 0x3F0) != 0, 5);
     u32 dataset = shell[0]; /* 4 x ShellLength, since the map is 0 */
-    REFUSE(dataset < 22, CODE(5, CARD_DATASET_SHORT));
+    REFUSE(dataset < 22, 5);
 
     u32 B = shell[16], S = shell[17], e = shell[18], sctl = shell[19];
-    REFUSE(S < 4, CODE(6, CARD_SECTORS));
-    REFUSE(B < 32, CODE(6, CARD_SECTOR_SIZE));
-    REFUSE(e - 1 >= S - 3, CODE(6, CARD_ENTRIES));
+    REFUSE(S < 4, 6);
+    REFUSE(B < 32, 6);
+    REFUSE(e - 1 >= S - 3, 6);
     u32 psi = psi_of(S);
-    REFUSE(sctl != ((S - 3) * psi + 7) >> 3, CODE(6, CARD_TABLE_LENGTH));
-    REFUSE(16 + 5 * e + sctl > B, CODE(6, CARD_DIRECTORY_SIZE));
-    REFUSE(dataset > B, CODE(6, CARD_SHELL_LENGTH));
-    REFUSE(length != 4 + S * B, CODE(6, CARD_IMAGE_LENGTH));
+    REFUSE(sctl != ((S - 3) * psi + 7) >> 3, 6);
+    REFUSE(16 + 5 * e + sctl > B, 6);
+    REFUSE(dataset > B, 6);
+    REFUSE(length != 4 + S * B, 6);
 
     v->S = S;
     v->B = B;
@@ -238,10 +228,10 @@ STAGE u32 validate(const u8 *image, size_t length, u64 want, struct view *v)
 
 #define TAKEN ((card_answer){ 0, 0 })
 
-/* A code of the image's, or 20 to 28 of the entry asked for. */
+/* A code is number | entry << 8 of the image's, or 20 to 28 of the entry asked for. */
 INLINE card_answer refused(u32 code, u64 entry)
 {
-    return (card_answer){ code & 255, code >= 20 && code <= 28 ? entry : code >> 8 & 255 };
+    return (card_answer){ code & 255, code >= 20 && code <= 28 ? entry : code >> 8 };
 }
 
 INLINE u64 mark_of(const struct view *v) { return v->link == v->S - 2 ? 2 : v->link == v->S - 1 ? 1 : 0; }
@@ -253,71 +243,7 @@ card_answer card_check(const u8 *image, size_t length)
 {
     struct view v;
     u32 code = validate(image, length, 0, &v);
-    return (card_answer){ code & 255, code >> 8 & 255 };
-}
-
-/* ---- why: the code says it, but for the digits of the ISRN and the chains */
-
-INLINE u32 digit_cause(const u8 *image)
-{
-    u64 above = above_9(be64(image + 7));
-    if ((above_9(image[6]) & 0x88) != 0 || above >> 48 != 0) return CARD_IIN;
-    return above >> 32 != 0 ? CARD_OID : above >> 4 != 0 ? CARD_ISSN : CARD_CHD;
-}
-
-/* 10 at entry j: the first bad element of its walk. There is one, so that no end is looked for. */
-RARE card_cause broken_cause(const u8 *before, u32 S, u32 psi, u32 j)
-{
-    u8 passed[256];
-    u32 s = j, x;
-    memset(passed, 0, sizeof passed);
-    for (;; s = x) {
-        passed[s] = 1;
-        x = element(before, s, psi);
-        if (x - 1 >= S - 1 || passed[x]) break;
-    }
-    return (card_cause){ 10, j, x == 0 ? CARD_ELEMENT_ZERO : x > S - 1 ? CARD_ELEMENT_ABOVE : CARD_ELEMENT_PASSED, s, 0 };
-}
-
-/* 11 at entry k: the first entry whose chain meets its own. There is one below k; from where they meet the two chains are one. */
-RARE card_cause shared_cause(const u8 *entry, const u8 *before, u32 S, u32 psi, u32 k)
-{
-    u8 held[256];
-    u32 s = k, x, low;
-    memset(held, 0, sizeof held);
-    for (;; s = x) {
-        held[s] = 1;
-        x = element(before, s, psi);
-        if (x == s || x >= S - 2) break;
-    }
-    for (u32 j = 1;; j++, entry += 5) {
-        if (empty(entry)) continue;
-        for (s = j; !held[s]; s = x) {
-            x = element(before, s, psi);
-            if (x == s || x >= S - 2) break;
-        }
-        if (!held[s]) continue;
-        for (low = s;; s = x) {
-            if (s < low) low = s;
-            x = element(before, s, psi);
-            if (x == s || x >= S - 2) return (card_cause){ 11, k, CARD_SECTOR_SHARED, low, j };
-        }
-    }
-}
-
-RARE card_cause cause_of(const u8 *image, u32 code, const struct view *v)
-{
-    u32 number = code & 255, entry = code >> 8 & 255, cause = code >> 16;
-    if (number == 10) return broken_cause(image + v->before, v->S, v->psi, entry);
-    if (number == 11) return shared_cause(image + v->entries, image + v->before, v->S, v->psi, entry);
-    return (card_cause){ number, 0, cause == CARD_IIN ? digit_cause(image) : cause, 0, 0 };
-}
-
-card_cause card_why(const u8 *image, size_t length)
-{
-    struct view v;
-    u32 code = validate(image, length, 0, &v);
-    return UNLIKELY(code != 0) ? cause_of(image, code, &v) : (card_cause){ 0, 0, CARD_NO_FAULT, 0, 0 };
+    return (card_answer){ code & 255, code >> 8 };
 }
 
 /* 1 to 12, and 20. */

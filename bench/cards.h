@@ -164,33 +164,6 @@ static inline void full_card(void)
         element(i, i <= 100 ? i + 25 : 127);
 }
 
-/* Entry 1 alone, in all sectors, of which the last leads to the one before: 10 there. */
-static inline void wound_card(size_t s)
-{
-    shared_card(s, 1);
-    element(s - 3, s - 4);
-}
-
-/* By number. */
-enum { SHARED_WORST, LOOPED_WORST, SHARED_BY_MOST, FULL, SHARED_LONGEST, BROKEN_LONGEST, WORSTS };
-#define WORST_NAMES { "all share", "all share but the last, in a loop", "all share", "all sectors in chains", "all share", "the last two in a loop" }
-
-static inline void worst_card(size_t which)
-{
-    if (which == SHARED_WORST)
-        shared_card(127, 26);
-    if (which == LOOPED_WORST)
-        looped_card(127, 26);
-    if (which == SHARED_BY_MOST)
-        shared_card(44, 41);
-    if (which == FULL)
-        full_card();
-    if (which == SHARED_LONGEST)
-        shared_card(232, 2);
-    if (which == BROKEN_LONGEST)
-        wound_card(237);
-}
-
 /* Cards that are meant to be dear, for every S with as many entries as fit, all present: how the sectors are chained, and what the last entry does. */
 enum { LINE_UP, LINE_DOWN, LINE_MIXED, STAR, CHAINS, SHAPES };
 enum { NOTHING, ZERO, LOOP_OF_TWO, LOOP_OF_HALF, JOINS_FIRST, JOINS_LAST, TAILS };

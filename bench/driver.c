@@ -1,10 +1,9 @@
 /* What bench/run measures. Each call that is counted stands between count_begin and count_end; each row prints its name, its number of counted
    calls and a sum of the answers and of the bytes they left, so that two programs can be seen to do the same work.
      driver table        each call on the small, the middle and the large card, whose tickets are of TYP 23, then some where they are of TYP 22
-                         revision 3; check and why of the worst cards; two equal large cards compared
-     driver refused      check and why of a card that is accepted, and of one for each cause of a refusal
+                         revision 3; the worst cards; two equal large cards compared
      driver growth       pairs of calls, and by how much the second has more of something
-     driver nasty        check and why of each nasty card
+     driver nasty        a check of each nasty card
      driver dates        the date of each stamp, the stamp of each date, and each date of 1996 to 2043 that has none
      driver same FROM N  every call on N cards damaged at random, uncounted */
 #include "cards.h"
@@ -35,8 +34,6 @@ static void add_ticket(const card_ticket *t)
     for (size_t i = 0; i < 25; i++)
         add(t->values[i]);
 }
-
-static void add_cause(const card_cause *w) { add(w->number), add(w->entry), add(w->cause), add(w->sector), add(w->other); }
 
 static uint64_t state = 1;
 
@@ -126,60 +123,6 @@ static void put_field(size_t j, size_t kind, size_t field, uint64_t value)
     }
 }
 
-/* SECR is right again. */
-static void seal(void)
-{
-    size_t dataset = image[4] & 0xFC;
-    unsigned right = crc(image + 4, dataset - 2);
-    image[4 + dataset - 2] = right >> 8;
-    image[4 + dataset - 1] = right & 255;
-}
-
-/* The first n bytes, which say that they are so many. */
-static void cut(size_t n)
-{
-    length = n;
-    image[0] = n >> 8;
-    image[1] = n & 255;
-}
-
-/* A card of two tickets, in the sectors 1 and 3 and in 2: S 14, so that there are elements above S-1 and bits after the last. Then it is as the cause says. */
-static const char *refused_card(size_t cause)
-{
-    blank(14, 64, 2, 24);
-    chains((size_t[]){ 2, 1 });
-    switch (cause) {
-    case CARD_NO_FAULT: return "no fault";
-    case CARD_SHORT: length = 3; return "short";
-    case CARD_LENGTH: image[1]++; return "length";
-    case CARD_VERSION: image[2] = 2; return "version";
-    case CARD_COPY: image[3] = 2; return "copy";
-    case CARD_NO_SHELL: cut(35); return "no shell";
-    case CARD_BIT_MAP: image[5] |= 16; return "bit map";
-    case CARD_DATASET_SHORT: image[4] = 20; return "dataset short";
-    case CARD_SECTORS: image[21] = 3; return "sectors";
-    case CARD_SECTOR_SIZE: image[20] = 31; return "sector size";
-    case CARD_ENTRIES: image[22] = 12; return "entries";
-    case CARD_TABLE_LENGTH: image[23]++; return "table length";
-    case CARD_DIRECTORY_SIZE: image[22] = 11; return "directory size";
-    case CARD_SHELL_LENGTH: image[4] = 68; return "shell length";
-    case CARD_IMAGE_LENGTH: cut(length + 1); return "image length";
-    case CARD_CHECKSUM: image[27]++; return "checksum";
-    case CARD_IIN: image[6] = 0xA3; seal(); return "IIN";
-    case CARD_OID: image[10] = 0x3A; seal(); return "OID";
-    case CARD_ISSN: image[14] = 0xA7; seal(); return "ISSN";
-    case CARD_CHD: image[14] = 0x7A; seal(); return "CHD";
-    case CARD_PADDING: image[25] = 1; seal(); return "padding";
-    case CARD_CHECK_DIGIT: image[14] = 0x76; seal(); return "check digit";
-    case CARD_TABLE_PADDING: image[table + table_size - 1] |= 1; return "table padding";
-    case CARD_ELEMENT_ZERO: element(3, 0); return "element zero";
-    case CARD_ELEMENT_ABOVE: element(3, 14); return "element above";
-    case CARD_ELEMENT_PASSED: element(3, 1); return "element passed";
-    case CARD_SECTOR_SHARED: element(2, 3); return "sector shared";
-    }
-    return "";
-}
-
 static void damage(void)
 {
     for (size_t n = any(4); n-- > 0;) {
@@ -209,8 +152,12 @@ static void damage(void)
             image[6 + k / 2] = (image[6 + k / 2] & 0xF0 >> shift) | any(10) << shift;
         }
     }
-    if (any(4) && (image[4] & 0xFC) >= 4)
-        seal();
+    size_t dataset = image[4] & 0xFC;
+    if (any(4) && dataset >= 4) {
+        unsigned right = crc(image + 4, dataset - 2);
+        image[4 + dataset - 2] = right >> 8;
+        image[4 + dataset - 1] = right & 255;
+    }
 }
 
 static void any_card(void)
@@ -259,10 +206,9 @@ int main(int argc, char **argv)
 {
     static const char *const names[] = { "small", "middle", "large" };
     static void (*const make[])(void) = { small_card, middle_card, large_card };
-    static const char *const shapes[] = SHAPE_NAMES, *const tails[] = TAIL_NAMES, *const worsts[] = WORST_NAMES;
+    static const char *const shapes[] = SHAPE_NAMES, *const tails[] = TAIL_NAMES;
     const char *work = argc > 1 ? argv[1] : "";
     card_answer a;
-    card_cause w;
     card_ticket t;
     uint64_t values[25];
 
@@ -275,11 +221,6 @@ int main(int argc, char **argv)
                 add(a.number), add(a.entry);
             }
             row("check", names[c], ROUNDS);
-            for (size_t r = 0; r < ROUNDS; r++) {
-                COUNTED(w = card_why(image, length));
-                add_cause(&w);
-            }
-            row("why", names[c], ROUNDS);
             for (size_t r = 0; r < ROUNDS; r++) {
                 COUNTED(t = card_read_ticket(image, length, 1 + r % entries, buffer, sizeof buffer));
                 add_ticket(&t);
@@ -325,15 +266,13 @@ int main(int argc, char **argv)
             }
             row("record write, 22/3", names[c], ROUNDS);
         }
-        for (size_t c = 0; c < WORSTS; c++) {
+        for (size_t c = 0; c < 4; c++) {
+            static const char *const worst[] = { "all share", "all share but the last, in a loop", "all share", "all sectors in chains" };
             char name[100];
-            worst_card(c);
+            c == 0 ? shared_card(127, 26) : c == 1 ? looped_card(127, 26) : c == 2 ? shared_card(44, 41) : full_card();
             COUNTED(a = card_check(image, length));
-            sprintf(name, "S %lu, e# %lu, %s: %lu at %lu", sectors, entries, worsts[c], a.number, a.entry);
+            sprintf(name, "S %lu, e# %lu, %s: %lu at %lu", sectors, entries, worst[c], a.number, a.entry);
             row("check", name, 1);
-            COUNTED(w = card_why(image, length));
-            add_cause(&w);
-            row("why", name, 1);
         }
         large_card();
         memcpy(saved, image, length);
@@ -341,16 +280,6 @@ int main(int argc, char **argv)
         add(a.number), add(a.entry), add(flags[0]);
         row("touched", "two equal large cards", 1);
     }
-    if (!strcmp(work, "refused"))
-        for (size_t cause = 0; cause <= CARD_SECTOR_SHARED; cause++) {
-            const char *name = refused_card(cause);
-            COUNTED(a = card_check(image, length));
-            add(a.number), add(a.entry);
-            COUNTED(w = card_why(image, length));
-            add_cause(&w);
-            printf("%lu\t%s\t%lu\t%lx\n", w.number, name, w.cause == cause ? cause : 99, sum);
-            sum = 0;
-        }
     if (!strcmp(work, "growth"))
         for (size_t g = 0; g < sizeof growths / sizeof *growths; g++) {
             for (size_t i = 0; i < 2; i++) {
@@ -381,9 +310,7 @@ int main(int argc, char **argv)
                 for (size_t tail = 0; tail < TAILS; tail++) {
                     nasty_card(s, shape, tail);
                     COUNTED(a = card_check(image, length));
-                    COUNTED(w = card_why(image, length));
-                    add_cause(&w);
-                    printf("S %lu, e# %lu, %s, %s: %lu at %lu\t%lx\n", s, entries, shapes[shape], tails[tail], a.number, a.entry, sum);
+                    printf("S %lu, e# %lu, %s, %s: %lu at %lu\n", s, entries, shapes[shape], tails[tail], a.number, a.entry);
                 }
     if (!strcmp(work, "dates")) {
         card_date d;
@@ -403,19 +330,19 @@ int main(int argc, char **argv)
             state = n;
             any_card();
             memcpy(saved, image, length);
-            if (any(30) == 0) /* an image that ends early, and says so */
-                cut(any(80));
+            if (any(30) == 0) { /* an image that ends early, and says so */
+                length = any(80);
+                image[0] = 0;
+                image[1] = length;
+            }
             size_t e = any(8) ? 1 + any(entries) : any(300), given = any(20) ? length : any(200), room = any(4) ? sizeof buffer : any(300);
-            size_t numbers[7], field = any(28), typ, revision, kind, took[2] = { KINDS, KINDS };
+            size_t numbers[6], field = any(28), typ, revision, kind, took[2] = { KINDS, KINDS };
             named(e, &typ, &revision);
             kind = kind_of(typ, revision);
             a = card_check(image, given);
             add(numbers[0] = a.number), add(a.entry);
-            w = card_why(image, given);
-            add_cause(&w);
-            numbers[1] = w.cause;
             t = card_read_ticket(image, given, e, buffer, room);
-            numbers[2] = t.number;
+            numbers[1] = t.number;
             if (t.number == 0)
                 took[0] = kind;
             add_ticket(&t);
@@ -423,7 +350,7 @@ int main(int argc, char **argv)
             if (kind == KINDS)
                 kind = any(KINDS);
             a = card_write_field(image, given, e, field, field - 1 < kinds[kind].count && any(4) ? limit_of(kind, field - 1) + any(2) : any(1 << 30));
-            add(numbers[3] = a.number), add(a.entry);
+            add(numbers[2] = a.number), add(a.entry);
             if (any(6) == 0) { /* a record of another kind, or of none */
                 if (any(2))
                     kind = any(KINDS);
@@ -439,19 +366,19 @@ int main(int argc, char **argv)
                 if (any(10) == 0)
                     values[i] = limit_of(kind, i) + (any(10) == 0);
             a = card_write_record(image, given, e, typ, revision, values);
-            add(numbers[4] = a.number), add(a.entry);
+            add(numbers[3] = a.number), add(a.entry);
             if (a.number == 0)
                 took[1] = kind;
             a = card_mark(image, given, e, any(4));
-            add(numbers[5] = a.number), add(a.entry);
+            add(numbers[4] = a.number), add(a.entry);
             add_bytes(image, length);
             if (any(2))
                 damage();
             a = card_touched(saved, given, image, length, flags, any(8) ? entries : any(256));
-            add(numbers[6] = a.number), add(a.entry);
+            add(numbers[5] = a.number), add(a.entry);
             add_bytes(flags, sizeof flags);
             printf("%lu", n);
-            for (size_t i = 0; i < 7; i++)
+            for (size_t i = 0; i < 6; i++)
                 printf(" %lu", numbers[i]);
             for (size_t i = 0; i < 2; i++)
                 took[i] < KINDS ? printf(" %d/%d", kinds[took[i]].typ, kinds[took[i]].revision) : printf(" -");

@@ -1,8 +1,8 @@
 /* The card library for C. Each call checks the whole image itself, ends on every input, and answers with a number and an entry: 0 and 0 for
    success, else a number of document 01 and the entry concerned (0 where none is named).
 
-   A refused call leaves every byte that was lent to it as it was, and every other value of its answer is 0; but card_record_set gives back the
-   record that it took, and card_why the cause. The decoders of the shell, the entry, the directory's ends and a ticket's
+   A refused call leaves every byte that was lent to it as it was, and every other value of its answer is 0; card_record_set alone gives back the
+   record that it took. The decoders of the shell, the entry, the directory's ends and a ticket's
    header cannot refuse and have no number. After `count` elements, sectors or bytes zeros follow.
 
    The border. No proof reaches across it: the caller keeps these, and nothing checks them.
@@ -19,11 +19,11 @@
    interface has C do it. This header is C from C89 on, given a stdint.h, and C++. */
 /* Bytes of stack that a call takes at most, its return address included, as tests/stack measures them on the smallest, the largest and
    the worst cards:
-   card_check 720, card_why 1024, card_read_shell 944, card_read_directory 736, card_read_table 1232, card_read_entry 736,
-   card_read_chain 1248, card_read_ticket 1152, card_fill 912, card_write_field 752, card_write_record 784, card_mark 736, card_touched 864,
-   card_record_set 1024, card_record_value 264, card_encode_shell 216, card_decode_shell 272, card_encode_entry 56, card_decode_entry 8,
-   card_encode_head 8, card_decode_head 8, card_encode_tail 40, card_decode_tail 8, card_encode_header 8, card_decode_header 8,
-   card_encode_ticket 464, card_decode_ticket 432, card_encode_table 104, card_decode_table 568, card_date_of 8, card_stamp_of 8. */
+   card_check 720, card_read_shell 944, card_read_directory 736, card_read_table 1232, card_read_entry 736, card_read_chain 1248,
+   card_read_ticket 1152, card_fill 912, card_write_field 752, card_write_record 784, card_mark 736, card_touched 864, card_record_set 1024,
+   card_record_value 264, card_encode_shell 216, card_decode_shell 272, card_encode_entry 56, card_decode_entry 8, card_encode_head 8,
+   card_decode_head 8, card_encode_tail 40, card_decode_tail 8, card_encode_header 8, card_decode_header 8, card_encode_ticket 464,
+   card_decode_ticket 432, card_encode_table 104, card_decode_table 568, card_date_of 8, card_stamp_of 8. */
 #ifndef CARD_H
 #define CARD_H
 
@@ -74,40 +74,6 @@ extern "C" {
 /* The answer of a check, a step, or an encoder that writes into a lent buffer. */
 typedef struct { size_t number, entry; } card_answer;
 
-/* Why an image is refused: the number and the entry that card_check gives, and the cause, one of those below. For 10 `sector` is the one that holds the
-   bad element; for 11 `other` is the lowest other entry that shares with the entry, and `sector` the lowest sector by number that both hold. Else both
-   are 0. */
-typedef struct { size_t number, entry, cause, sector, other; } card_cause;
-
-/* The causes, each with its number and what is wrong. The first of them in this order is named; of the three of 10, what the entry's walk meets first. */
-#define CARD_NO_FAULT 0        /* 0: the image is accepted */
-#define CARD_SHORT 1           /* 1: it has fewer than 4 bytes */
-#define CARD_LENGTH 2          /* 1: its first two bytes do not say its length */
-#define CARD_VERSION 3         /* 2: its version is not 1 */
-#define CARD_COPY 4            /* 3: its directory copy is neither 0 nor 1 */
-#define CARD_NO_SHELL 5        /* 4: it has fewer than 36 bytes */
-#define CARD_BIT_MAP 6         /* 5: ShellBitMap is not 0 */
-#define CARD_DATASET_SHORT 7   /* 5: 4 x ShellLength is below 22 */
-#define CARD_SECTORS 8         /* 6: S is below 4 */
-#define CARD_SECTOR_SIZE 9     /* 6: B is below 32 */
-#define CARD_ENTRIES 10        /* 6: e# is 0, or above S-3 */
-#define CARD_TABLE_LENGTH 11   /* 6: SCTL is not the bytes that the elements of S-3 sectors take */
-#define CARD_DIRECTORY_SIZE 12 /* 6: the directory's 16 + 5 x e# + SCTL bytes are more than B */
-#define CARD_SHELL_LENGTH 13   /* 6: 4 x ShellLength is above B */
-#define CARD_IMAGE_LENGTH 14   /* 6: it has not 4 + S x B bytes */
-#define CARD_CHECKSUM 15       /* 7: SECR is not the checksum of the bytes before it */
-#define CARD_IIN 16            /* 8: a digit of IIN is above 9 */
-#define CARD_OID 17            /* 8: a digit of OID is above 9 */
-#define CARD_ISSN 18           /* 8: a digit of ISSN is above 9 */
-#define CARD_CHD 19            /* 8: CHD is above 9 */
-#define CARD_PADDING 20        /* 8: a byte of the padding before SECR is not 0 */
-#define CARD_CHECK_DIGIT 21    /* 12: CHD is not the check digit of IIN, OID and ISSN */
-#define CARD_TABLE_PADDING 22  /* 9: a bit after the chain table's last element is not 0 */
-#define CARD_ELEMENT_ZERO 23   /* 10: the sector's element is 0 */
-#define CARD_ELEMENT_ABOVE 24  /* 10: the sector's element is above S-1 */
-#define CARD_ELEMENT_PASSED 25 /* 10: the sector's element is a sector that the chain has passed */
-#define CARD_SECTOR_SHARED 26  /* 11: two entries hold one sector */
-
 /* The shell's sixteen values in the order of the record. */
 typedef struct { size_t number, entry; uint64_t values[16]; } card_shell;
 
@@ -157,9 +123,6 @@ typedef struct { size_t number, entry; card_record next; } card_decoded;
 
 /* Whether the image is accepted: 0, or 1 to 12. */
 card_answer card_check(const uint8_t *image, size_t length);
-
-/* Why it is refused, or CARD_NO_FAULT: that exactly where the image is accepted. */
-card_cause card_why(const uint8_t *image, size_t length);
 
 /* Reads. 20: no such product. */
 card_shell card_read_shell(const uint8_t *image, size_t length);

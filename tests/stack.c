@@ -67,7 +67,6 @@ static void on_image(int column, size_t kind)
 {
     memcpy(saved, image, sizeof image);
     USE(ANSWER, card_check, AT(image), length);
-    USE(RESULT, card_why, AT(result), AT(image), length);
     USE(RESULT, card_read_shell, AT(result), AT(image), length);
     USE(RESULT, card_read_directory, AT(result), AT(image), length);
     USE(RESULT, card_read_table, AT(result), AT(image), length);
@@ -139,10 +138,14 @@ int main(void)
     }
     on_values(SMALLEST, 4, 6);
     on_values(LARGEST, 255, 63);
-    for (size_t which = 0; which < WORSTS; which++) {
-        worst_card(which);
-        on_image(WORST, TYP_23);
-    }
+    shared_card(127, 26);
+    on_image(WORST, TYP_23);
+    looped_card(127, 26);
+    on_image(WORST, TYP_23);
+    shared_card(44, 41);
+    on_image(WORST, TYP_23);
+    full_card();
+    on_image(WORST, TYP_23);
     on_values(WORST, 255, 63);
     for (size_t k = 0; k < count; k++)
         printf("%s %lu %lu %lu\n", rows[k].name, rows[k].bytes[SMALLEST], rows[k].bytes[LARGEST], rows[k].bytes[WORST]);

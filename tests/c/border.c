@@ -1,6 +1,6 @@
 /* Calls every function of include/card.h at the border that the header states: a null pointer with length 0 for each slice, which the proofs do
-   not know, bytes at odd addresses, images of every small length, one image lent twice, values after those of a record's kind, kinds that are not
-   listed. It is C and C++ of every standard: tests/header compiles it as each.
+   not know, bytes at odd addresses, one image lent twice, values after those of a record's kind, kinds that are not listed. It is C and C++ of
+   every standard: tests/header compiles it as each.
      border FILE     a card whose entry 1 is a ticket; says one line where all is well, else a line for each fault, and status 1 */
 #include "../../include/card.h"
 #include <stdio.h>
@@ -39,17 +39,10 @@ static size_t of_ticket(card_ticket t)
     return OTHERS(t.typ) + OTHERS(t.header) + OTHERS(t.values) + OTHERS(t.end) + OTHERS(t.mark) + OTHERS(t.sectors);
 }
 
-/* How many things of a cause beside its number and entry are wrong. */
-static size_t of_cause(card_cause c, size_t cause, size_t sector, size_t other)
-{
-    return (c.cause != cause) + (c.sector != sector) + (c.other != other);
-}
-
 /* No image, which is 1; and no image to compare with. */
 static void no_image(void)
 {
     card_answer a = card_check(NULL, 0);
-    card_cause cause = card_why(NULL, 0);
     card_shell shell = card_read_shell(NULL, 0);
     card_directory directory = card_read_directory(NULL, 0);
     card_table table = card_read_table(NULL, 0);
@@ -58,7 +51,6 @@ static void no_image(void)
     card_ticket ticket = card_read_ticket(NULL, 0, 1, NULL, 0);
     card_filled filled = card_fill(NULL, 0, 1, NULL, 0);
     TOLD("card_check", a, 1, 0, 0);
-    TOLD("card_why", cause, 1, 0, of_cause(cause, CARD_SHORT, 0, 0));
     TOLD("card_read_shell", shell, 1, 0, OTHERS(shell.values));
     TOLD("card_read_directory", directory, 1, 0, OTHERS(directory.values));
     TOLD("card_read_table", table, 1, 0, OTHERS(table.count) + OTHERS(table.elements));
@@ -74,40 +66,6 @@ static void no_image(void)
     TOLD("card_mark", a, 1, 0, 0);
     a = card_touched(NULL, 0, NULL, 0, NULL, 0);
     TOLD("card_touched", a, 1, 0, 0);
-}
-
-/* A card at an odd address: accepted; with a byte too many and too few; cut off at every small length, which it says; with a chain table of zeros. */
-static void refused(const uint8_t *card, size_t length)
-{
-    uint8_t *image = room + 1;
-    card_shell shell;
-    card_answer a;
-    card_cause cause;
-    size_t n;
-    memcpy(image, card, length);
-    image[length] = 0;
-    shell = card_read_shell(image, length);
-    cause = card_why(image, length);
-    TOLD("card_why of an accepted card", cause, 0, 0, of_cause(cause, CARD_NO_FAULT, 0, 0));
-    cause = card_why(image, length + 1);
-    TOLD("card_why of a byte more", cause, 1, 0, of_cause(cause, CARD_LENGTH, 0, 0));
-    cause = card_why(image, length - 1);
-    TOLD("card_why of a byte less", cause, 1, 0, of_cause(cause, CARD_LENGTH, 0, 0));
-    for (n = 0; n < 100; n++) {
-        image[0] = 0;
-        image[1] = (uint8_t)n;
-        a = card_check(image, n);
-        TOLD("card_check of the first bytes", a, n < 4 ? 1 : n < 36 ? 4 : 6, 0, 0);
-        cause = card_why(image, n);
-        TOLD("card_why of the first bytes", cause, n < 4 ? 1 : n < 36 ? 4 : 6, 0,
-            of_cause(cause, n < 4 ? CARD_SHORT : n < 36 ? CARD_NO_SHELL : CARD_IMAGE_LENGTH, 0, 0));
-    }
-    memcpy(image, card, length);
-    memset(image + 6 + (shell.values[13] - 2 + image[3]) * shell.values[12] + 5 * shell.values[14], 0, (size_t)shell.values[15]);
-    a = card_check(image, length);
-    TOLD("card_check of a chain table of zeros", a, 10, 1, 0);
-    cause = card_why(image, length);
-    TOLD("card_why of a chain table of zeros", cause, 10, 1, of_cause(cause, CARD_ELEMENT_ZERO, 1, 0));
 }
 
 /* The lent part of the buffer and sixteen bytes after it: none changes where the call is refused, and none past the product where it is not. */
@@ -317,12 +275,11 @@ int main(int count, char **words)
     if (length == 0)
         return 2;
     no_image();
-    refused(card, length);
     no_buffer(card, length);
     no_bytes();
     all_kinds(card, length);
     if (faults == 0)
-        printf("%lu calls with nothing lent, at odd addresses, of small lengths, one image twice, and of each kind and none: each answers as document 01 says\n",
+        printf("%lu calls with nothing lent, at odd addresses, one image twice, and of each kind and none: each answers as document 01 says\n",
             (unsigned long)calls);
     return faults != 0;
 }

@@ -100,43 +100,6 @@ static unsigned crc(const uint8_t *s, size_t k)
     return r ^ 0xFFFF;
 }
 
-/* The protocol's words for the causes of a refusal. */
-static const char *const causes[] = {
-    [CARD_SHORT] = "short", [CARD_LENGTH] = "length", [CARD_VERSION] = "version", [CARD_COPY] = "copy", [CARD_NO_SHELL] = "no-shell",
-    [CARD_BIT_MAP] = "bit-map", [CARD_DATASET_SHORT] = "dataset-short", [CARD_SECTORS] = "sectors", [CARD_SECTOR_SIZE] = "sector-size",
-    [CARD_ENTRIES] = "entries", [CARD_TABLE_LENGTH] = "table-length", [CARD_DIRECTORY_SIZE] = "directory-size",
-    [CARD_SHELL_LENGTH] = "shell-length", [CARD_IMAGE_LENGTH] = "image-length", [CARD_CHECKSUM] = "checksum", [CARD_IIN] = "iin",
-    [CARD_OID] = "oid", [CARD_ISSN] = "issn", [CARD_CHD] = "chd", [CARD_PADDING] = "padding", [CARD_CHECK_DIGIT] = "check-digit",
-    [CARD_TABLE_PADDING] = "table-padding", [CARD_ELEMENT_ZERO] = "zero", [CARD_ELEMENT_ABOVE] = "above", [CARD_ELEMENT_PASSED] = "passed",
-};
-
-static int why(void)
-{
-    card_cause c = card_why(image, image_length);
-    switch (c.cause) {
-    case CARD_NO_FAULT:
-        printf("no fault");
-        if (c.number || c.entry)
-            printf(" and %zu %zu", c.number, c.entry);
-        break;
-    case CARD_ELEMENT_ZERO:
-    case CARD_ELEMENT_ABOVE:
-    case CARD_ELEMENT_PASSED:
-        printf("%zu %zu broken sector %zu %s", c.number, c.entry, c.sector, causes[c.cause]);
-        c.sector = 0;
-        break;
-    case CARD_SECTOR_SHARED:
-        printf("%zu %zu shares entry %zu sector %zu", c.number, c.entry, c.other, c.sector);
-        c.sector = c.other = 0;
-        break;
-    default:
-        printf("%zu %zu %s", c.number, c.entry, c.cause < sizeof causes / sizeof *causes ? causes[c.cause] : "for no cause");
-    }
-    if (c.sector || c.other)
-        printf(" and sector %zu, entry %zu", c.sector, c.other);
-    return end();
-}
-
 static int listing(void)
 {
     static const char *const marks[] = { "fresh", "used", "blocked" };
@@ -184,8 +147,6 @@ static int reads(void)
         head(a.number, a.entry);
         return end();
     }
-    if (IS("why") && WITH(0))
-        return why();
     if (IS("shell") && WITH(0)) {
         card_shell r = card_read_shell(image, image_length);
         head(r.number, r.entry);

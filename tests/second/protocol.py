@@ -16,7 +16,6 @@ from model.shell import decode_shell, encode_shell
 from model.steps import set_mark, write_field, write_record
 from model.table import decode_table, encode_table
 from model.touched import touched
-from model.why import why
 
 IMAGE_MOST = 65535
 BUFFER_BYTES = 65536
@@ -37,7 +36,6 @@ GROUPS = {
                 "encode-ticket", "encode-shell", "encode-table", "decode-entry", "decode-head",
                 "decode-tail", "decode-header", "decode-ticket", "decode-shell", "decode-table"),
     "check": ("check",),
-    "why": ("why",),
     "list": ("list",),
     "reads": ("shell", "directory", "table", "entry", "chain", "ticket", "rest", "buffer"),
     "steps": ("field", "record", "mark"),
@@ -142,10 +140,6 @@ class Talk:
     def say_check(self, words):
         exactly(words, 0)
         return answered(lambda: nothing(open_card(self.image)), [])
-
-    def say_why(self, words):
-        exactly(words, 0)
-        return why(self.image)
 
     def say_list(self, words):
         exactly(words, 0)

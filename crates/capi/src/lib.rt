@@ -7,8 +7,6 @@ ghost use Rattle.table.specs.Coded as tables;
 ghost use Rattle.ticket.specs.Ticket as tickets;
 ghost use Rattle.ticket.specs.Memory.{own_of, own, held_changed, held_encoded, held_decoded};
 ghost use Rattle.image.specs.Verdict.{verdict};
-ghost use Rattle.image.specs.Why.{why_of};
-ghost use Rattle.causes.specs.Reasons.{reason_of};
 ghost use Rattle.reads.specs.Card.{read_shell, read_directory, read_table};
 ghost use Rattle.reads.specs.Entry.{read_entry, read_chain};
 ghost use Rattle.reads.specs.Ticket.{read_ticket, held_ticket, buffer_after, fill_of};
@@ -19,8 +17,8 @@ ghost use Rattle.dates.specs.Calendar.{date_of, stamp_of};
 
 use card::{
     Answer, ChainRead, Changed, Checked, Dated, Decoded, DirectoryRead, Elements, Encoded, Entry,
-    EntryBytes, EntryRead, Filled, Head, HeadBytes, Header, HeaderBytes, Reason, Record, Shell,
-    ShellRead, Stamped, TableRead, Tail, TailBytes, TicketRead, Value,
+    EntryBytes, EntryRead, Filled, Head, HeadBytes, Header, HeaderBytes, Record, Shell, ShellRead,
+    Stamped, TableRead, Tail, TailBytes, TicketRead, Value,
 };
 use fields::{MOST_BYTES, MOST_VALUES};
 
@@ -36,15 +34,6 @@ pub extern "C" fn card_check(image: &[u8]) -> Answer
         },
         Checked::Refused(number, entry) => Answer { number, entry },
     }
-}
-
-// Why it is not, by numbers.
-#[unsafe(no_mangle)]
-pub extern "C" fn card_why(image: &[u8]) -> Reason
-    ensures { result ≡ reason_of (why_of image.now) }
-{
-    let cause = card::why(image);
-    card::by_numbers(cause)
 }
 
 #[unsafe(no_mangle)]

@@ -5,11 +5,6 @@
 pub use image::{Checked, Shape};
 pub use verdict::check;
 
-// Why one is not.
-pub use causes::{Reason, by_numbers, why};
-pub use chains::Fault;
-pub use image::{Cause, RuleName};
-
 // Reading a card.
 pub use readcard::{read_chain, read_directory, read_entry, read_shell, read_table};
 pub use reads::{ChainRead, DirectoryRead, EntryRead, Filled, ShellRead, TableRead, TicketRead};

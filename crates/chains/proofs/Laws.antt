@@ -10,11 +10,8 @@ use native.Mathlib.Omega.{arith}
 use lib.ListN.{length}
 use lib.Dec.{eqb, leb}
 use borrow.Author.Tests.{eqb-true, eqb-false, leb-true, leb-false}
-use Rattle.chains.specs.Chain.{Sector, Ends, fresh, used, blocked, Names, Leads, last, then, In, Distinct, Chain, NoChain, last_of}
-use Rattle.chains.specs.declared.Fault.{Fault}
-use Rattle.chains.specs.declared.Fault.TheVariants.{Zero, Above, Passed}
-use Rattle.chains.specs.Breaks.{Bad, zero_met, above_met, comes_back, Break}
-use Rattle.chains.specs.Products.{Common}
+use Rattle.chains.specs.Chain.{Sector, Ends, fresh, used, blocked, Names, Leads, last, then, In, Distinct, Chain, NoChain, Common, last_of}
+use Rattle.chains.specs.Breaks.{Fault, Bad, zero_met, above_met, comes_back, is_zero, is_above, is_passed, Break}
 use Rattle.chains.specs.Walk.{Link, end, to, bad, pick_link, link, member, past, Walk, found, broken, after, on_link, walk_on, walk}
 use Rattle.chains.proofs.Members.{not-member, in-or-not}
 use Rattle.chains.proofs.Distinct.{few}
@@ -32,7 +29,7 @@ unfolding link
 view S i x = go (eqb x i) refl (eqb x (S - 1)) refl (eqb x (S - 2)) refl (leb 1 x) refl (leb x (S - 3)) refl
   where
     go : (b₁ : Bool) → eqb x i ≡ b₁ → (b₂ : Bool) → eqb x (S - 1) ≡ b₂ → (b₃ : Bool) → eqb x (S - 2) ≡ b₃ → (b₄ : Bool) → leb 1 x ≡ b₄ → (b₅ : Bool) → leb x (S - 3) ≡ b₅
-        → View S i x (pick_link b₁ (end 0) (pick_link b₂ (end 1) (pick_link b₃ (end 2) (pick_link b₄ (pick_link b₅ (to x) (bad Above)) (bad Zero)))))
+        → View S i x (pick_link b₁ (end 0) (pick_link b₂ (end 1) (pick_link b₃ (end 2) (pick_link b₄ (pick_link b₅ (to x) (bad is_above)) (bad is_zero)))))
     go true e₁ b₂ e₂ b₃ e₃ b₄ e₄ b₅ e₅ = v_end (fresh (eqb-true x i e₁))
     go false e₁ true e₂ b₃ e₃ b₄ e₄ b₅ e₅ = v_end (used (eqb-true x (S - 1) e₂))
     go false e₁ false e₂ true e₃ b₄ e₄ b₅ e₅ = v_end (blocked (eqb-true x (S - 2) e₃))
@@ -194,7 +191,7 @@ module _ (f : ℕ → ℕ) (S : ℕ) where
           rw (e₁, e₂) (then a r.0, omega (arith, r.1))
       inner a (broken b) ih q = absurd (let z : ◌≡◌ {A = ℕ} 0 1 = cc in omega arith)
 
-      on : Names S i (f i) → ((us : List ℕ) (k : ℕ) → walk_on f S (i ∷ ps) (f i) n ≡ found us k → Leads f S (f i) us k × (length us ≤ n)) → (b : Bool) → on_link ps i (pick_link b (bad Passed) (to (f i))) (λ x. walk_on f S (i ∷ ps) x n) ≡ found ss m → Leads f S i ss m × (length ss ≤ suc n)
+      on : Names S i (f i) → ((us : List ℕ) (k : ℕ) → walk_on f S (i ∷ ps) (f i) n ≡ found us k → Leads f S (f i) us k × (length us ≤ n)) → (b : Bool) → on_link ps i (pick_link b (bad is_passed) (to (f i))) (λ x. walk_on f S (i ∷ ps) x n) ≡ found ss m → Leads f S i ss m × (length ss ≤ suc n)
       on a ih true q = absurd (let z : ◌≡◌ {A = ℕ} 0 1 = cc in omega arith)
       on a ih false q = inner a (walk_on f S (i ∷ ps) (f i) n) ih q
 

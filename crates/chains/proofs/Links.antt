@@ -8,9 +8,7 @@ use native.Mathlib.Decide.{ℕ_discrete}
 use lib.Dec.{eqb, ltb}
 use borrow.Author.Tests.{eq-eqb, ne_eqb, eqb-true, eqb-false, ltb-true, ltb-false}
 use Rattle.chains.specs.Chain.{Sector, Names, fresh, used, blocked}
-use Rattle.chains.specs.declared.Fault.{Fault}
-use Rattle.chains.specs.declared.Fault.TheVariants.{Zero, Above}
-use Rattle.chains.specs.Breaks.{zero_met, above_met}
+use Rattle.chains.specs.Breaks.{Fault, is_zero, is_above, zero_met, above_met}
 use Rattle.chains.specs.Walk.{end, to, bad, link}
 use Rattle.chains.proofs.Laws.{view, view-end, view-to, view-bad}
 
@@ -44,8 +42,8 @@ module _ (S i x : ℕ) (s : Sector S i) where
     where
       go : (a : Bool) → eqb x i ≡ a → (b : Bool) → eqb x 0 ≡ b → (d : Bool) → ltb (S - 1) x ≡ d → (not a && (b || d)) ≡ true → (w : Fault) × (link S i x ≡ bad w)
       go true p b q d r h = absurd (false≢true h)
-      go false p true q d r h = (Zero, view-bad s (view S i x) (zero_met (eqb-true x 0 q)))
-      go false p false q true r h = (Above, view-bad s (view S i x) (above_met (ltb-true (S - 1) x r)))
+      go false p true q d r h = (is_zero, view-bad s (view S i x) (zero_met (eqb-true x 0 q)))
+      go false p false q true r h = (is_above, view-bad s (view S i x) (above_met (ltb-true (S - 1) x r)))
       go false p false q false r h = absurd (false≢true h)
 
   pub link-end : stops S i x ≡ true → fails S i x ≡ false → (m : ℕ) × (link S i x ≡ end m)

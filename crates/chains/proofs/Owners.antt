@@ -12,11 +12,10 @@ use native.Mathlib.Decide.{ℕ_discrete}
 use lib.ListN.{length, get_or, set, replicate, length-set}
 use lib.Seq.{get_or-set_same, get_or-set_other}
 use borrow.Author.Tests.{eq-eqb, ne_eqb}
-use Rattle.chains.specs.Chain.{Sector, Names, Leads, last, then, In, Distinct, Chain, NoChain}
-use Rattle.chains.specs.declared.Fault.{Fault}
-use Rattle.chains.specs.Breaks.{Bad}
+use Rattle.chains.specs.Chain.{Sector, Names, Leads, last, then, In, Common, Distinct, Chain, NoChain}
+use Rattle.chains.specs.Breaks.{Fault, Bad}
 use Rattle.chains.specs.Walk.{Link, link}
-use Rattle.chains.specs.Products.{Common, broken_at}
+use Rattle.chains.specs.Products.{broken_at}
 use Rattle.chains.specs.Owners.{Followed, stop, again, by_owner, by_link, follow}
 use Rattle.chains.proofs.Laws.{View, v_end, v_to, v_bad, view, ends-or-names, ends-or-bad, names-or-bad, no_return, leads-distinct, first_in}
 use Rattle.chains.proofs.Distinct.{few}

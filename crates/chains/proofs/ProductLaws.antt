@@ -9,9 +9,9 @@ use Prim.Native.Nat.{ℕ, zero, suc, ◌-◌, ◌≤◌, ◌<◌}
 use native.Mathlib.Omega.{arith}
 use native.Mathlib.Decide.{dec_lt, ℕ_discrete}
 use lib.ListN.{length}
-use Rattle.chains.specs.Chain.{Sector, In, Chain, last_of, Broken, Holds, HaveCommon, Shares}
+use Rattle.chains.specs.Chain.{Sector, In, Common, Chain, last_of, Broken, Shares}
 use Rattle.chains.specs.Walk.{Walk, found, broken, walk, member}
-use Rattle.chains.specs.Products.{Common, Chained, Disjoint, chain_at, sectors_of, mark_of, is_broken, broken_at, meet, some, shares_at, when, last_in, last_at, count_at}
+use Rattle.chains.specs.Products.{Chained, Disjoint, chain_at, sectors_of, mark_of, is_broken, broken_at, meet, some, shares_at, when, last_in, last_at, count_at}
 use Rattle.chains.proofs.Members.{or-true, true-or, member_in, in-member}
 use Rattle.chains.proofs.Laws.{found-chain, broken-none, common-last, chain-sectors, last-in, last-ends}
 use Rattle.chains.proofs.Told.{mark_said_lem}
@@ -23,7 +23,7 @@ and-true : (a b : Bool) → (a && b) ≡ true → (a ≡ true) × (b ≡ true)
 and-true true b e = (refl, e)
 and-true false b e = absurd (false≢true e)
 
-pub some_true : (n : ℕ) (t : ℕ → Bool) → some n t ≡ true → (i : ℕ) × (i < n) × (t i ≡ true)
+some_true : (n : ℕ) (t : ℕ → Bool) → some n t ≡ true → (i : ℕ) × (i < n) × (t i ≡ true)
 unfolding some
 some_true zero t e = absurd (false≢true e)
 some_true (suc n) t e = go (or-true (some n t) (t n) e) (some_true n t)
@@ -41,13 +41,13 @@ true-some (suc n) t i h e = go (dec_lt i n) (true-some n t i)
     go (yes l) ih = rw (ih l e)
     go (no l) ih = let q : i ≡ n = omega arith in rw (← q, e, true-or)
 
-pub meet-common : (xs ys : List ℕ) → meet xs ys ≡ true → Common xs ys
+meet-common : (xs ys : List ℕ) → meet xs ys ≡ true → Common xs ys
 unfolding meet
 meet-common [] ys e = absurd (false≢true e)
 meet-common (x ∷ xs) ys e =
     ⊎_elim (λ a. (x, inl refl, member_in x ys a)) (λ a. let r = meet-common xs ys a in (r.0, inr r.1, r.2)) (or-true (member x ys) (meet xs ys) e)
 
-pub common-meet : (xs ys : List ℕ) → Common xs ys → meet xs ys ≡ true
+common-meet : (xs ys : List ℕ) → Common xs ys → meet xs ys ≡ true
 unfolding meet
 common-meet [] ys h = absurd h.1
 common-meet (x ∷ xs) ys h = go h.1 (common-meet xs ys)
@@ -116,47 +116,45 @@ module _ {P : ℕ → Type 0} {p : ℕ → Bool} {S : ℕ} (t : Tested P p S) (f
   pub so-sectors : {j m : ℕ} {ss : List ℕ} → P j → Chain f S j ss m → sectors_of (chain_at f S j) ≡ ss
   so-sectors v d = rw ((found-chain f S (t.sector _ v)).1 d)
 
-  -- the sectors of product j are those that its chain passes
-  pub holds-so : (j x : ℕ) → p j ≡ true → member x (sectors_of (chain_at f S j)) ≡ true → Holds P f S j x
-  holds-so j x e h =
-      let v = t.so j e in
-      let i = member_in x (sectors_of (chain_at f S j)) h in
-      let d = sectors-so j x v i in
-      record { is-product = v; sectors = sectors_of (chain_at f S j); mark = d.0; chain = d.1; inside = i }
-
-  pub so-holds : (j x : ℕ) → Holds P f S j x → member x (sectors_of (chain_at f S j)) ≡ true
-  so-holds j x h = in-member x (sectors_of (chain_at f S j)) (rw (so-sectors h.is-product h.chain) h.inside)
-
-  pub share-so : (j k : ℕ) → p j ≡ true → p k ≡ true → meet (sectors_of (chain_at f S j)) (sectors_of (chain_at f S k)) ≡ true → HaveCommon P f S j k
-  share-so j k v w e =
-      let h = meet-common (sectors_of (chain_at f S j)) (sectors_of (chain_at f S k)) e in
-      (h.0, holds-so j h.0 v (in-member h.0 (sectors_of (chain_at f S j)) h.1), holds-so k h.0 w (in-member h.0 (sectors_of (chain_at f S k)) h.2))
-
-  pub so-share : (j k : ℕ) → HaveCommon P f S j k → meet (sectors_of (chain_at f S j)) (sectors_of (chain_at f S k)) ≡ true
-  so-share j k s =
-      common-meet (sectors_of (chain_at f S j)) (sectors_of (chain_at f S k)) (s.0, member_in s.0 (sectors_of (chain_at f S j)) (so-holds j s.0 s.1), member_in s.0 (sectors_of (chain_at f S k)) (so-holds k s.0 s.2))
-
   pub shares-so : (k : ℕ) → shares_at p f S k ≡ true → Shares P f S k
   unfolding shares_at
   shares-so k e =
       let x = and-true (p k) (some k (λ j. p j && meet (sectors_of (chain_at f S j)) (sectors_of (chain_at f S k)))) e in
       let y = some_true k (λ j. p j && meet (sectors_of (chain_at f S j)) (sectors_of (chain_at f S k))) x.1 in
       let z = and-true (p y.0) (meet (sectors_of (chain_at f S y.0)) (sectors_of (chain_at f S k))) y.2 in
-      (y.0, y.1, share-so y.0 k z.0 x.0 z.1)
+      let v = t.so y.0 z.0 in
+      let w = t.so k x.0 in
+      let h = meet-common (sectors_of (chain_at f S y.0)) (sectors_of (chain_at f S k)) z.1 in
+      let d = sectors-so y.0 h.0 v h.1 in
+      let g = sectors-so k h.0 w h.2 in
+      record {
+        lower = y.0;
+        below = y.1;
+        product_lower = v;
+        product_k = w;
+        sectors = sectors_of (chain_at f S y.0);
+        mark = d.0;
+        sectors_k = sectors_of (chain_at f S k);
+        mark_k = g.0;
+        chain = d.1;
+        chain_k = g.1;
+        common = h;
+      }
 
   pub so-shares : (k : ℕ) → Shares P f S k → shares_at p f S k ≡ true
   unfolding shares_at
   so-shares k s =
-      rw (t.test k s.2.2.is-product, true-some k (λ j. p j && meet (sectors_of (chain_at f S j)) (sectors_of (chain_at f S k))) s.0 s.1 (rw (t.test s.0 s.2.1.is-product, so-share s.0 k s.2)))
+      let q : meet (sectors_of (chain_at f S s.lower)) (sectors_of (chain_at f S k)) ≡ true =
+      rw (so-sectors s.product_lower s.chain, so-sectors s.product_k s.chain_k) (common-meet s.sectors s.sectors_k s.common) in
+      rw (t.test k s.product_k, true-some k (λ j. p j && meet (sectors_of (chain_at f S j)) (sectors_of (chain_at f S k))) s.lower s.below (rw (t.test s.lower s.product_lower, q)))
 
   -- no two products share a sector exactly where none shares with a lower one
   pub disjoint-none : Disjoint P f S ↔ ((k : ℕ) → Shares P f S k → ⊥)
   disjoint-none =
-      ((λ h k s. let a = s.2.1 in let b = s.2.2 in h s.0 k a.is-product b.is-product (λ e. omega (arith, e, s.1)) a.sectors b.sectors a.mark b.mark a.chain b.chain (s.2.0, a.inside, b.inside)), there)
+      ((λ h k s. h s.lower k s.product_lower s.product_k (λ e. omega (arith, e, s.below)) s.sectors s.sectors_k s.mark s.mark_k s.chain s.chain_k s.common), there)
     where
       share : (j k : ℕ) → j < k → P j → P k → (ss ts : List ℕ) (m n : ℕ) → Chain f S j ss m → Chain f S k ts n → Common ss ts → Shares P f S k
-      share j k l v w ss ts m n c d h =
-          (j, l, (h.0, record { is-product = v; sectors = ss; mark = m; chain = c; inside = h.1 }, record { is-product = w; sectors = ts; mark = n; chain = d; inside = h.2 }))
+      share j k l v w ss ts m n c d h = record { lower = j; below = l; product_lower = v; product_k = w; sectors = ss; mark = m; sectors_k = ts; mark_k = n; chain = c; chain_k = d; common = h }
 
       there : ((k : ℕ) → Shares P f S k → ⊥) → Disjoint P f S
       there free j k v w d ss ts m n a b h = elim (dec_lt j k) [
@@ -198,32 +196,34 @@ module _ {P : ℕ → Type 0} {p : ℕ → Bool} {S : ℕ} (t : Tested P p S) (f
   pub shares-meets : (k : ℕ) → shares_at p f S k ≡ true → Meets (last_at p f S) k
   shares-meets k e =
       let h = shares-so k e in
-      let a = h.2.1 in
-      let b = h.2.2 in
-      let x = product-last a.is-product a.chain in
-      let y = product-last b.is-product b.chain in
+      let x = product-last h.product_lower h.chain in
+      let y = product-last h.product_k h.chain_k in
       record {
-        lower = h.0;
-        low = (t.sector _ a.is-product).low;
-        below = h.1;
-        same = x ∙ (common-last f S (t.sector _ a.is-product) a.chain b.chain).0 (h.2.0, a.inside, b.inside) ∙ sym y;
-        some = λ e. omega (arith, y, e, (chain-last (t.sector _ b.is-product) b.chain).low);
+        lower = h.lower;
+        low = (t.sector _ h.product_lower).low;
+        below = h.below;
+        same = x ∙ (common-last f S (t.sector _ h.product_lower) h.chain h.chain_k).0 h.common ∙ sym y;
+        some = λ e. omega (arith, y, e, (chain-last (t.sector _ h.product_k) h.chain_k).low);
       }
 
   pub meets-shares : (k : ℕ) → Meets (last_at p f S) k → shares_at p f S k ≡ true
   meets-shares k h =
       let d = last-product k h.some in
       let g = last-product h.lower (λ e. h.some (sym h.same ∙ e)) in
-      let x = (common-last f S (t.sector _ g.is-product) g.chain d.chain).1 (sym g.ends ∙ h.same ∙ d.ends) in
-      so-shares k (
-        h.lower,
-        h.below,
-        (
-          x.0,
-          record { is-product = g.is-product; sectors = g.sectors; mark = g.mark; chain = g.chain; inside = x.1 },
-          record { is-product = d.is-product; sectors = d.sectors; mark = d.mark; chain = d.chain; inside = x.2 },
-        ),
-      )
+      so-shares k
+      (record {
+        lower = h.lower;
+        below = h.below;
+        product_lower = g.is-product;
+        product_k = d.is-product;
+        sectors = g.sectors;
+        mark = g.mark;
+        sectors_k = d.sectors;
+        mark_k = d.mark;
+        chain = g.chain;
+        chain_k = d.chain;
+        common = (common-last f S (t.sector _ g.is-product) g.chain d.chain).1 (sym g.ends ∙ h.same ∙ d.ends);
+      })
 
   -- what is no product is not broken, and ends nowhere
   pub no_product : (j : ℕ) → p j ≡ false → (broken_at p f S j ≡ false) × (last_at p f S j ≡ 0) × (count_at p f S j ≡ 0)

@@ -7,9 +7,9 @@ use mathlib.Core.List.{List, [], ◌∷◌, ◌++◌}
 use Prim.Native.Nat.{ℕ, zero, suc, ◌-◌, ◌≤◌}
 use native.Mathlib.Omega.{arith}
 use lib.ListN.{length}
-use Rattle.chains.specs.Chain.{In, Distinct, Holds, Shares}
+use Rattle.chains.specs.Chain.{In, Common, Distinct, Chain, Shares}
 use Rattle.chains.specs.Walk.{Walk, found, broken, walk}
-use Rattle.chains.specs.Products.{Common, sectors_of, chain_at, if_product, all_sectors}
+use Rattle.chains.specs.Products.{sectors_of, chain_at, if_product, all_sectors}
 use Rattle.chains.proofs.Laws.{found-chain, chain-sectors}
 use Rattle.chains.proofs.Distinct.{few}
 use Rattle.chains.proofs.ProductLaws.{Tested}
@@ -25,15 +25,23 @@ distinct_append (x ∷ xs) ys a b h =
     ((λ i. ⊎_elim a.0 (λ j. h (x, inl refl, j)) (in-append x xs ys i)), distinct_append xs ys a.1 b (λ c. h (c.0, inr c.1, c.2)))
 
 module _ {P : ℕ → Type 0} {p : ℕ → Bool} {S : ℕ} (t : Tested P p S) (f : ℕ → ℕ) where
-  one : (j x : ℕ) → In x (if_product (p j) (sectors_of (chain_at f S j))) → Holds P f S j x
+  -- the chain of product j passes sector x
+  record Passes (j x : ℕ) : Type 0 where
+    is-product : P j
+    sectors : List ℕ
+    mark : ℕ
+    chain : Chain f S j sectors mark
+    inside : In x sectors
+
+  one : (j x : ℕ) → In x (if_product (p j) (sectors_of (chain_at f S j))) → Passes j x
   one j x h = go (p j) refl (walk f S j (S - 3)) refl h
     where
-      go : (b : Bool) → p j ≡ b → (w : Walk) → walk f S j (S - 3) ≡ w → In x (if_product b (sectors_of w)) → Holds P f S j x
+      go : (b : Bool) → p j ≡ b → (w : Walk) → walk f S j (S - 3) ≡ w → In x (if_product b (sectors_of w)) → Passes j x
       go true e (found ss m) q h = let v = t.so j e in record { is-product = v; sectors = ss; mark = m; chain = (found-chain f S (t.sector j v)).0 q; inside = h }
       go true e (broken d) q h = absurd h
       go false e w q h = absurd h
 
-  passed : (n x : ℕ) → In x (all_sectors p f S n) → (j : ℕ) × (j ≤ n) × Holds P f S j x
+  passed : (n x : ℕ) → In x (all_sectors p f S n) → (j : ℕ) × (j ≤ n) × Passes j x
   unfolding all_sectors
   passed zero x h = absurd h
   passed (suc n) x h =
@@ -60,7 +68,19 @@ module _ {P : ℕ → Type 0} {p : ℕ → Bool} {S : ℕ} (t : Tested P p S) (f
             distinct_append (all_sectors p f S m) (if_product (p (suc m)) (sectors_of (chain_at f S (suc m)))) (upto m (omega arith)) (once (suc m))
             (λ c. let r = passed m c.0 c.1 in let a = r.2 in let b = one (suc m) c.0 c.2 in
             clean (suc m) l
-            (r.0, omega (arith, r.1), (c.0, a, b)))
+            (record {
+              lower = r.0;
+              below = omega (arith, r.1);
+              product_lower = a.is-product;
+              product_k = b.is-product;
+              sectors = a.sectors;
+              mark = a.mark;
+              sectors_k = b.sectors;
+              mark_k = b.mark;
+              chain = a.chain;
+              chain_k = b.chain;
+              common = (c.0, a.inside, b.inside);
+            }))
 
     pub together-few : length (all_sectors p f S n) ≤ S - 3
     together-few =

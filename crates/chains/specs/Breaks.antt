@@ -1,15 +1,19 @@
--- Where a chain breaks, in the words of document 01, "Sector chains": "if it meets 0 or a number above S-1, or returns to a sector it has passed"; and of
--- request T-05. Assumes nothing.
+-- An annex: where a chain breaks, in the words of document 01, "Sector chains": "if it meets 0 or a number above S-1, or returns to a sector it has
+-- passed". Assumes nothing.
 use Rattle.std.specs.Prelude.{◌≡◌, List, ◌∷◌, ℕ, ◌-◌, ◌<◌, length}
 use Rattle.chains.specs.Chain.{In, Names}
-use Rattle.chains.specs.declared.Fault.{Fault}
-use Rattle.chains.specs.declared.Fault.TheVariants.{Zero, Above, Passed}
+
+-- what is wrong with an element: it is 0, it is above S - 1, or it names a sector already passed
+pub data Fault : Type 0 where
+  is_zero : Fault
+  is_above : Fault
+  is_passed : Fault
 
 -- the element x has that fault, with the sectors ps passed
 pub data Bad (S : ℕ) (ps : List ℕ) (x : ℕ) : Fault → Type 0 where
-  zero_met : x ≡ 0 → Bad S ps x Zero
-  above_met : S - 1 < x → Bad S ps x Above
-  comes_back : In x ps → Bad S ps x Passed
+  zero_met : x ≡ 0 → Bad S ps x is_zero
+  above_met : S - 1 < x → Bad S ps x is_above
+  comes_back : In x ps → Bad S ps x is_passed
 
 -- the sector whose element is bad, what is wrong with it, and the number of elements consulted, this one included
 pub record Break : Type 0 where

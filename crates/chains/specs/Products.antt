@@ -1,12 +1,8 @@
 -- An annex: the chains of a card's products, as the machine finds them. `P j` says that entry j is a product, `p j` is the test of it, and its chain
 -- starts at sector j. Document 01, "Sector chains" and the rows 10 and 11. Assumes nothing.
 use Rattle.std.specs.Prelude.{◌≢◌, Bool, true, false, ◌&&◌, ◌||◌, List, [], ◌∷◌, ◌++◌, ℕ, zero, suc, ◌-◌, length}
-use Rattle.chains.specs.Chain.{Chain, In, last_of}
+use Rattle.chains.specs.Chain.{Chain, Common, In, last_of}
 use Rattle.chains.specs.Walk.{Walk, found, broken, walk, member}
-
--- two lists have a number in common
-abbrev pub Common : List ℕ → List ℕ → Type 0
-Common ss ts = (x : ℕ) × In x ss × In x ts
 
 -- every product has a chain
 abbrev pub Chained : (ℕ → Type 0) → (ℕ → ℕ) → ℕ → Type 0

@@ -7,14 +7,6 @@ ghost use Rattle.chains.specs.Owners.{stop, follow};
 ghost use Rattle.chains.specs.Psi.{Ψ, table_bytes};
 ghost use Rattle.chains.specs.Packed.{Inside, element_at, element_in, tabled, last_left, last_told, left_told, mark_said};
 
-// What is wrong with an element that breaks a chain: it is 0, it is above S - 1, or it names a sector already passed.
-#[derive(Drop)]
-pub enum Fault {
-    Zero,
-    Above,
-    Passed,
-}
-
 // A chain table: the bit where it starts, the bits of an element, and the number of sectors.
 #[derive(Drop)]
 pub struct Table {

@@ -77,19 +77,19 @@ module _ (w : List ℕ) (n a b c : ℕ) where
 -- ---- the two programs
 
 module _ (w : List ℕ) (n a b c i : ℕ) (r : Command) (at : i ≡ place_from 0 w n (flat common)) where
-  pub of-both : (t : Bool) → i < 27 → r ≡ command_at i common n a b c → r ≡ command_of t w n a b c
+  pub of-both : (t : Bool) → i < 26 → r ≡ command_at i common n a b c → r ≡ command_of t w n a b c
   unfolding command_of
   of-both t h e =
       let z : place_from 0 w n (flat common) - 0 ≡ i = omega arith in
       e ∙ sym (rw z at (hit w n a b c common (cond t trial desk) 0 (lit≤ tt) (omega arith)))
 
-  pub of-trial : (t : Bool) (k : ℕ) → t ≡ true → 27 ≤ i → k ≡ place_from 0 w n (flat trial) → r ≡ command_at k trial n a b c → r ≡ command_of t w n a b c
+  pub of-trial : (t : Bool) (k : ℕ) → t ≡ true → 26 ≤ i → k ≡ place_from 0 w n (flat trial) → r ≡ command_at k trial n a b c → r ≡ command_of t w n a b c
   unfolding command_of
   of-trial t k q h p f =
       let u : command_in (common ++ trial) w n a b c ≡ command_in trial w n a b c = miss w n a b c common trial 0 (lit≤ tt) (omega arith) in
       rw q (f ∙ (rw p (sym (u ∙ whole w n a b c trial (lit≤ tt)))))
 
-  pub of-desk : (t : Bool) (k : ℕ) → t ≡ false → 27 ≤ i → k ≡ place_from 0 w n (flat desk) → OfNone r k desk → r ≡ command_of t w n a b c
+  pub of-desk : (t : Bool) (k : ℕ) → t ≡ false → 26 ≤ i → k ≡ place_from 0 w n (flat desk) → OfNone r k desk → r ≡ command_of t w n a b c
   unfolding command_of
   of-desk t k q h p f =
       let u : command_in (common ++ desk) w n a b c ≡ command_in desk w n a b c = miss w n a b c common desk 0 (lit≤ tt) (omega arith) in

@@ -58,7 +58,6 @@ valued t r f n k = cond (suits t r f n) k Unknown
 abbrev pub common : List Listed
 common =
     listed "check" "0" (λ n a b c. Look look.Check)
-    ∷ listed "why" "0" (λ n a b c. Look look.Why)
     ∷ listed "bytes" "0" (λ n a b c. Look look.Bytes)
     ∷ listed "list" "0" (λ n a b c. Look look.List)
     ∷ listed "shell" "0" (λ n a b c. Look look.Shell)

@@ -26,7 +26,6 @@ pub enum Command {
 #[derive(Drop)]
 pub enum Look {
     Check,
-    Why,
     Bytes,
     List,
     Shell,
@@ -134,9 +133,9 @@ fn named(all: bool, word: &[u8], count: usize, a: u64, b: u64, n: u64) -> Comman
     let i = words::place(
         word,
         count,
-        b"check 0 why 0 bytes 0 list 0 shell 0 directory 0 table 0 entry 1 chain 1 ticket 1 ticket 2 rest 1 rest 2 buffer 1 field 3 record * mark 2 date 1 stamp 3 set * encode_entry 7 encode_head 3 encode_tail 4 encode_header 3 encode_ticket * encode_shell 17 encode_table *",
+        b"check 0 bytes 0 list 0 shell 0 directory 0 table 0 entry 1 chain 1 ticket 1 ticket 2 rest 1 rest 2 buffer 1 field 3 record * mark 2 date 1 stamp 3 set * encode_entry 7 encode_head 3 encode_tail 4 encode_header 3 encode_ticket * encode_shell 17 encode_table *",
     );
-    if i < 27 {
+    if i < 26 {
         return common(i, count, a, b, n);
     }
     if all {
@@ -168,41 +167,40 @@ fn common(i: usize, count: usize, a: u64, b: u64, n: u64) -> Command
 {
     match i {
         0 => Command::Look(Look::Check),
-        1 => Command::Look(Look::Why),
-        2 => Command::Look(Look::Bytes),
-        3 => Command::Look(Look::List),
-        4 => Command::Look(Look::Shell),
-        5 => Command::Look(Look::Directory),
-        6 => Command::Look(Look::Table),
-        7 => Command::Look(Look::Entry(a as usize)),
-        8 => Command::Look(Look::Chain(a as usize)),
-        9 => Command::Lend(Lend::Ticket(a as usize)),
-        10 => Command::Lend(Lend::TicketIn(a as usize, b as usize)),
-        11 => Command::Lend(Lend::Rest(a as usize)),
-        12 => Command::Lend(Lend::RestIn(a as usize, b as usize)),
-        13 => Command::Lend(Lend::Buffer(a as usize)),
-        14 => Command::Change(Change::Field(a as usize, b as usize, n)),
-        15 => suited(
+        1 => Command::Look(Look::Bytes),
+        2 => Command::Look(Look::List),
+        3 => Command::Look(Look::Shell),
+        4 => Command::Look(Look::Directory),
+        5 => Command::Look(Look::Table),
+        6 => Command::Look(Look::Entry(a as usize)),
+        7 => Command::Look(Look::Chain(a as usize)),
+        8 => Command::Lend(Lend::Ticket(a as usize)),
+        9 => Command::Lend(Lend::TicketIn(a as usize, b as usize)),
+        10 => Command::Lend(Lend::Rest(a as usize)),
+        11 => Command::Lend(Lend::RestIn(a as usize, b as usize)),
+        12 => Command::Lend(Lend::Buffer(a as usize)),
+        13 => Command::Change(Change::Field(a as usize, b as usize, n)),
+        14 => suited(
             values::suit(b, n, 3, count),
             Command::Change(Change::Record(a as usize, b, n)),
         ),
-        16 => Command::Change(Change::Mark(a as usize, b as usize)),
-        17 => Command::Reckon(Reckon::Date(a)),
-        18 => Command::Reckon(Reckon::Stamp(a, b, n)),
-        19 => suited(
+        15 => Command::Change(Change::Mark(a as usize, b as usize)),
+        16 => Command::Reckon(Reckon::Date(a)),
+        17 => Command::Reckon(Reckon::Stamp(a, b, n)),
+        18 => suited(
             values::suit(a, b, 4, count),
             Command::Reckon(Reckon::Set(a, b, n as usize)),
         ),
-        20 => Command::Encode(Encode::Entry),
-        21 => Command::Encode(Encode::Head),
-        22 => Command::Encode(Encode::Tail),
-        23 => Command::Encode(Encode::Header),
-        24 => suited(
+        19 => Command::Encode(Encode::Entry),
+        20 => Command::Encode(Encode::Head),
+        21 => Command::Encode(Encode::Tail),
+        22 => Command::Encode(Encode::Header),
+        23 => suited(
             values::suit(a, b, 2, count),
             Command::Encode(Encode::Ticket(a, b)),
         ),
-        25 => Command::Encode(Encode::Shell(a as usize)),
-        26 => Command::Encode(Encode::Table(a, b as usize)),
+        24 => Command::Encode(Encode::Shell(a as usize)),
+        25 => Command::Encode(Encode::Table(a, b as usize)),
         _ => Command::Unknown,
     }
 }

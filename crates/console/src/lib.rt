@@ -9,7 +9,6 @@ mod lends;
 mod listing;
 mod looks;
 mod makes;
-mod telling;
 mod values;
 
 ghost use Rattle.std.specs.Prelude.{◌≡◌, cond, ◌-◌, ◌<◌};
@@ -17,7 +16,6 @@ ghost use Rattle.console.specs.Obeys.{held, after_command, LentBy, after_line, L
 
 use commands::Command;
 pub use listing::{LARGEST_ACCEPTED, list};
-pub use telling::tell;
 use text::words::MOST;
 use text::{feed, prints, words};
 

@@ -1,13 +1,12 @@
 // Commands that look at the image.
 use crate::commands::Look;
-use crate::{listing, telling};
+use crate::listing;
 use card::Checked;
 use text::prints;
 
 pub(crate) fn look(asked: Look, image: &[u8]) {
     match asked {
         Look::Check => check(image),
-        Look::Why => telling::line(card::why(image)),
         Look::Bytes => bytes(image),
         Look::List => listing::list(image),
         Look::Shell => shell(image),

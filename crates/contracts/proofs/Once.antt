@@ -7,10 +7,6 @@ use denote.Triple.Clauses.{AtExit}
 use Rattle.contracts.proofs.Fixed.{Once, Lent}
 use Rattle.verdict.proofs.check.Reads as check
 use Rattle.verdict.proofs.check.Kinds as check-kinds
-use Rattle.causes.proofs.why.Reads as why
-use Rattle.causes.proofs.why.Kinds as why-kinds
-use Rattle.causes.proofs.by_numbers.Reads as by_numbers
-use Rattle.causes.proofs.by_numbers.Kinds as by-numbers-kinds
 use Rattle.readcard.proofs.read_shell.Reads as read-shell
 use Rattle.readcard.proofs.read_shell.Kinds as read-shell-kinds
 use Rattle.readcard.proofs.read_directory.Reads as read-directory
@@ -74,12 +70,6 @@ use Rattle.dates.proofs.stamp.Kinds as stamp-kinds
 
 pub check-once : Once 1 check-kinds.ps check-kinds.r check.Pre check.Post
 check-once = record { asks_nothing = λ κs a. tt; one_answer = λ κs a z z' e e' p q. p ∙ sym q }
-
-pub why-once : Once 1 why-kinds.ps why-kinds.r why.Pre why.Post
-why-once = record { asks_nothing = λ κs a. tt; one_answer = λ κs a z z' e e' p q. p ∙ sym q }
-
-pub by-numbers-once : Once 0 by-numbers-kinds.ps by-numbers-kinds.r by_numbers.Pre by_numbers.Post
-by-numbers-once = record { asks_nothing = λ κs a. tt; one_answer = λ κs a z z' e e' p q. p ∙ sym q }
 
 pub read-shell-once : Once 1 read-shell-kinds.ps read-shell-kinds.r read-shell.Pre read-shell.Post
 read-shell-once = record { asks_nothing = λ κs a. tt; one_answer = λ κs a z z' e e' p q. p ∙ sym q }

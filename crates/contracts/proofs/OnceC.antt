@@ -3,8 +3,6 @@ use mathlib.Core.Path.{sym, ◌∙◌}
 use Rattle.contracts.proofs.Fixed.{Once, Lent}
 use Rattle.capi.proofs.card_check.Reads as card-check
 use Rattle.capi.proofs.card_check.Kinds as card-check-kinds
-use Rattle.capi.proofs.card_why.Reads as card-why
-use Rattle.capi.proofs.card_why.Kinds as card-why-kinds
 use Rattle.capi.proofs.card_read_shell.Reads as card-read-shell
 use Rattle.capi.proofs.card_read_shell.Kinds as card-read-shell-kinds
 use Rattle.capi.proofs.card_read_directory.Reads as card-read-directory
@@ -66,9 +64,6 @@ use Rattle.capi.proofs.card_stamp_of.Kinds as card-stamp-of-kinds
 
 pub card-check-once : Once 1 card-check-kinds.ps card-check-kinds.r card-check.Pre card-check.Post
 card-check-once = record { asks_nothing = λ κs a. tt; one_answer = λ κs a z z' e e' p q. p ∙ sym q }
-
-pub card-why-once : Once 1 card-why-kinds.ps card-why-kinds.r card-why.Pre card-why.Post
-card-why-once = record { asks_nothing = λ κs a. tt; one_answer = λ κs a z z' e e' p q. p ∙ sym q }
 
 pub card-read-shell-once : Once 1 card-read-shell-kinds.ps card-read-shell-kinds.r card-read-shell.Pre card-read-shell.Post
 card-read-shell-once = record { asks_nothing = λ κs a. tt; one_answer = λ κs a z z' e e' p q. p ∙ sym q }

@@ -1,31 +1,16 @@
-// What the contracts are worth: no published call asks anything first, and none leaves a choice (proofs/Once, and OnceC for C). Its code holds the four names of
+// What the contracts are worth: no published call asks anything first, and none leaves a choice (proofs/Once, and OnceC for C). Its code holds the two names of
 // crate `card` that the C library has not to their contracts: calls, and nothing but calls.
 ghost use Rattle.std.specs.Prelude.{◌≡◌, ◌+◌, length};
 ghost use Rattle.image.specs.Check.{check_of};
-ghost use Rattle.image.specs.Why.{why_of};
-ghost use Rattle.causes.specs.Reasons.{reason_of};
 ghost use Rattle.reads.specs.Ticket.{rest, rest_at};
 
-use card::{Cause, Checked, Reason};
+use card::Checked;
 
 // Whether an image is accepted, and its shape.
 pub fn check(image: &[u8]) -> Checked
     ensures { result ≡ check_of image.now }
 {
     card::check(image)
-}
-
-// Why an image is refused, or that it is not; and that cause by numbers.
-pub fn why(image: &[u8]) -> Cause
-    ensures { result ≡ why_of image.now }
-{
-    card::why(image)
-}
-
-pub fn by_numbers(cause: Cause) -> Reason
-    ensures { result ≡ reason_of cause }
-{
-    card::by_numbers(cause)
 }
 
 // The part of a buffer that holds the dataset bytes after the fixed fields.

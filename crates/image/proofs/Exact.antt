@@ -31,13 +31,9 @@ use Rattle.image.specs.Facts.{Zeros, Facts}
 use Rattle.image.proofs.Bounded.{bounds}
 use Rattle.image.proofs.Padding.{zeros-field}
 
--- j is the lowest of which P holds, or 0 and there is none
-abbrev pub LowestOr : (ℕ → Type 0) → ℕ → Type 0
-LowestOr P j = ((j ≡ 0) × ((i : ℕ) → P i → ⊥)) ⊎ ((1 ≤ j) × Lowest P j)
-
 -- the lowest that passes a test for P
-pub lowest_so : (P : ℕ → Type 0) (n : ℕ) (t : ℕ → Bool) → ((k : ℕ) → P k → (1 ≤ k) × (k ≤ n) × (t k ≡ true)) → ((k : ℕ) → t k ≡ true → P k)
-    → {r : ℕ} → Found-lowest n t r → LowestOr P r
+lowest_so : (P : ℕ → Type 0) (n : ℕ) (t : ℕ → Bool) → ((k : ℕ) → P k → (1 ≤ k) × (k ≤ n) × (t k ≡ true)) → ((k : ℕ) → t k ≡ true → P k)
+    → {r : ℕ} → Found-lowest n t r → ((r ≡ 0) × ((k : ℕ) → P k → ⊥)) ⊎ ((1 ≤ r) × Lowest P r)
 lowest_so P n t pass so (nowhere h) = inl (refl, λ k p. let q = pass k p in h k q.0 q.1 q.2)
 lowest_so P n t pass so (somewhere {r = r} a l e h) =
     inr (a, record { holds = so r e; not_lower = λ k b p. let q = pass k p in h k q.0 b q.2 })
@@ -176,24 +172,19 @@ pub facts-obeys : (c : List ℕ) → Facts c → Obeys c
 facts-obeys c f = record { kept = facts-kept c f; none_broken = none_broken c f; none_shares = none_shares c f }
 
 -- e# is at most S - 3 where the rules are kept
-pub fits_kept : (c : List ℕ) → Kept (rules c) → e# c ≤ S c - 3
+fits_kept : (c : List ℕ) → Kept (rules c) → e# c ≤ S c - 3
 unfolding rules
 fits_kept c k = k.1.1.1.1.1.1.1.1.1.0.1
 
 -- ---- the verdict
 
 module _ (c : List ℕ) where
-  pub lowest-broken : Kept (rules c) → LowestOr (Broken c) (lowest (e# c) (broken_at c))
-  lowest-broken r =
-      lowest_so (Broken c) (e# c) (broken_at c)
-      (λ k p. (p.is-product.low, p.is-product.high, so-broken c (fits_kept c r) k p)) (broken-so c (fits_kept c r)) (lowest-is (e# c) (broken_at c))
-
-  pub lowest-shares : Kept (rules c) → LowestOr (Shares c) (lowest (e# c) (shares_at c))
-  lowest-shares r =
-      lowest_so (Shares c) (e# c) (shares_at c)
-      (λ k p. (p.2.2.is-product.low, p.2.2.is-product.high, so-shares c (fits_kept c r) k p)) (shares-so c (fits_kept c r)) (lowest-is (e# c) (shares_at c))
+  -- j is the lowest of which P holds, or 0 and there is none
+  LowestOr : (ℕ → Type 0) → ℕ → Type 0
+  LowestOr P j = ((j ≡ 0) × ((i : ℕ) → P i → ⊥)) ⊎ ((1 ≤ j) × Lowest P j)
 
   says-kept : Kept (rules c) → (j k : ℕ) → LowestOr (Broken c) j → LowestOr (Shares c) k → Says c (judged 0 j k).number (judged 0 j k).entry
+  unfolding LowestOr
   says-kept r zero zero (inl x) (inl y) = accepted (record { kept = r; none_broken = x.1; none_shares = y.1 })
   says-kept r zero (suc k) (inl x) (inl y) = absurd (omega (arith, y.0))
   says-kept r zero zero (inl x) (inr y) = absurd (omega (arith, y.0))
@@ -209,11 +200,15 @@ module _ (c : List ℕ) where
   says-judged (suc n) j k (one a f) b s = refused f
 
   pub says : Says c (verdict c).number (verdict c).entry
-  unfolding verdict
+  unfolding verdict LowestOr
   says =
-      says-judged (first (rules c)) (lowest (e# c) (broken_at c)) (lowest (e# c) (shares_at c)) (CL.found (rules c) (numbered c)) lowest-broken lowest-shares
+      says-judged (first (rules c)) (lowest (e# c) (broken_at c)) (lowest (e# c) (shares_at c)) (CL.found (rules c) (numbered c))
+      (λ r. lowest_so (Broken c) (e# c) (broken_at c)
+      (λ k p. (p.is-product.low, p.is-product.high, so-broken c (fits_kept c r) k p)) (broken-so c (fits_kept c r)) (lowest-is (e# c) (broken_at c)))
+      (λ r. lowest_so (Shares c) (e# c) (shares_at c)
+      (λ k p. (p.product_k.low, p.product_k.high, so-shares c (fits_kept c r) k p)) (shares-so c (fits_kept c r)) (lowest-is (e# c) (shares_at c)))
 
-  pub lowest-one : (P : ℕ → Type 0) (q r : ℕ) → Lowest P q → Lowest P r → q ≡ r
+  lowest-one : (P : ℕ → Type 0) (q r : ℕ) → Lowest P q → Lowest P r → q ≡ r
   lowest-one P q r a b =
       let x : ¬ (q < r) = λ l. b.not_lower q l a.holds in
       let y : ¬ (r < q) = λ l. a.not_lower r l b.holds in

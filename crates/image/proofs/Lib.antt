@@ -4,8 +4,6 @@ pub mod Bounded
 pub mod Shapes
 pub mod Answers
 pub mod Exact
-pub mod Causes
-pub mod Coded
 pub mod Limits
 pub mod Entries
 pub mod Stops

@@ -8,9 +8,9 @@ use Prim.Native.Nat.{ℕ, ◌+◌, ◌-◌, ◌*◌, ◌≤◌}
 use native.Mathlib.Nat.{add-zero}
 use native.Mathlib.Omega.{arith}
 use Rattle.bits.specs.Bits.{field}
-use Rattle.chains.specs.Chain.{Sector, Ends, In, Chain, last_of}
+use Rattle.chains.specs.Chain.{Sector, Ends, In, Common, Chain, last_of}
 use Rattle.chains.specs.Walk.{Walk, found, broken, walk}
-use Rattle.chains.specs.Products.{Common, sectors_of, mark_of}
+use Rattle.chains.specs.Products.{sectors_of, mark_of}
 use Rattle.chains.specs.Psi.{table_bytes}
 use Rattle.chains.proofs.Laws.{found-chain, broken-none, chain-apart, chain-marked, chain-kept}
 use Rattle.image.specs.Image.{S, e#, directory_at, entry_at, element, chain, sectors, mark}

@@ -2,14 +2,11 @@
 use mathlib.Core.Path.{◌≡◌, refl, sym, ap, ◌∙◌}
 use mathlib.Core.Logic.{◌≢◌}
 use mathlib.Core.List.{List, ◌++◌}
-use Prim.Native.Nat.{ℕ, zero, suc, ◌≤◌, ◌<◌}
+use Prim.Native.Nat.{ℕ, zero, suc}
 use native.Mathlib.Omega.{arith}
-use lib.Dec.{leb}
-use borrow.Author.Tests.{leb-true}
 use Rattle.rules.specs.Claim.{Rule, Kept}
 use Rattle.rules.specs.First.{first}
 use Rattle.rules.proofs.ClaimLaws.{Numbered, or_else, first-append}
-use Rattle.rules.proofs.CodeLaws.{first_passes}
 use Rattle.rules.proofs.First.{kept-of-first}
 use Rattle.image.specs.Rules.{head_rules, size_rules, content_rules, rules}
 use Rattle.image.specs.Bounds.{Bounds}
@@ -44,11 +41,3 @@ module _ (c : List ℕ) where
 
         pub at-content : {k : ℕ} → k ≡ first (content_rules c) → k ≡ first (rules c)
         at-content d = rw (by_parts, ← e, z, ← f, y, d)
-
-  -- a number above 4 is that of a card whose head keeps its rules
-  pub head-kept : 4 < first (rules c) → Kept (head_rules c)
-  head-kept h = kept (head_rules c) (omega arith) refl (go (first (head_rules c)) refl (leb-true _ 4 (first_passes (λ x. leb x 4) (head_rules c) refl)))
-    where
-      go : (n : ℕ) → n ≡ first (head_rules c) → n ≤ 4 → first (head_rules c) ≡ 0
-      go zero e l = sym e
-      go (suc n) e l = absurd (omega (arith, at_head e (λ z. omega arith)))

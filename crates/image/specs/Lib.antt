@@ -4,8 +4,6 @@ pub mod Product
 pub mod Obeys
 pub mod Verdict
 pub mod Answer
-pub mod Because
-pub mod Why
 pub mod Check
 pub mod Facts
 pub mod Seen

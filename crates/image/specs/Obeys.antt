@@ -16,12 +16,6 @@ pub record IsProduct (c : List ℕ) (j : ℕ) : Type 0 where
 abbrev pub Broken : List ℕ → ℕ → Type 0  -- 10: entry j is a product, and no chain starts at sector j
 Broken c j = chain.Broken (IsProduct c) (element c) (S c) j
 
-abbrev pub Holds : List ℕ → ℕ → ℕ → Type 0  -- the chain of product j passes sector x
-Holds c j x = chain.Holds (IsProduct c) (element c) (S c) j x
-
-abbrev pub HaveCommon : List ℕ → ℕ → ℕ → Type 0  -- the chains of products j and k have a sector in common
-HaveCommon c j k = chain.HaveCommon (IsProduct c) (element c) (S c) j k
-
 abbrev pub Shares : List ℕ → ℕ → Type 0  -- 11: the chain of product k has a sector in common with that of a lower one
 Shares c k = chain.Shares (IsProduct c) (element c) (S c) k
 

@@ -15,19 +15,17 @@ head_rules c =
     ∷ rule 4 (36 ≤? length c)
     ∷ []
 
-abbrev pub extent_rules : List ℕ → List Rule  -- the row 6
-extent_rules c =
-    rule 6 (4 ≤? S c)
+abbrev pub size_rules : List ℕ → List Rule  -- the rows 5 and 6; 5 is the shell's own
+size_rules c =
+    form_rules (ShellBitMap (shell_values c)) (dataset c)
+    ++ (rule 6 (4 ≤? S c)
     ∷ rule 6 (32 ≤? B c)
     ∷ rule 6 (1 ≤? e# c and e# c ≤? S c - 3)
     ∷ rule 6 (SCTL c ≡? table_bytes (S c))
     ∷ rule 6 (16 + 5 * e# c + SCTL c ≤? B c)
     ∷ rule 6 (dataset c ≤? B c)
     ∷ rule 6 (length c ≡? 4 + S c * B c)
-    ∷ []
-
-abbrev pub size_rules : List ℕ → List Rule  -- the rows 5 and 6; 5 is the shell's own
-size_rules c = form_rules (ShellBitMap (shell_values c)) (dataset c) ++ extent_rules c
+    ∷ [])
 
 abbrev pub content_rules : List ℕ → List Rule  -- the rows 7, 8, 12 and 9; the digits of 8, and 12, are the shell's own
 content_rules c =

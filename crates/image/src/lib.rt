@@ -8,7 +8,7 @@ ghost use Rattle.chains.specs.Packed.{mark_said};
 ghost use Rattle.image.specs.Image.{S, element};
 ghost use Rattle.image.specs.Shape.{Shaped, entry_place, sector_place, table_of};
 
-use chains::{Fault, Table};
+use chains::Table;
 
 // The numbers by which everything in an image is found.
 #[derive(Drop)]
@@ -36,43 +36,6 @@ pub enum Checked {
 pub enum Found {
     There(usize, usize),
     Not(usize, usize),
-}
-
-// The rules 1 to 8, 12 and 9 by their names, in their order: one each for 2, 3, 4, 7, 12 and 9, two for 1 and 5, seven for 6 and five for 8.
-#[derive(Drop)]
-pub enum RuleName {
-    Short,
-    Length,
-    Version,
-    Copy,
-    NoShell,
-    BitMap,
-    DatasetShort,
-    Sectors,
-    SectorSize,
-    Entries,
-    TableLength,
-    DirectorySize,
-    ShellLength,
-    ImageLength,
-    Checksum,
-    Iin,
-    Oid,
-    Issn,
-    Chd,
-    Padding,
-    CheckDigit,
-    TablePadding,
-}
-
-// Why an image is refused, or that it is not: the number and the rule that is not kept; 10: the entry, the sector whose element is bad, and what is wrong
-// with it; 11: the entry, the lowest other that shares with it, and the lowest sector that both hold.
-#[derive(Drop)]
-pub enum Cause {
-    NoFault,
-    Rule(usize, RuleName),
-    Broken(usize, usize, Fault),
-    Shared(usize, usize, usize),
 }
 
 // The byte where sector i starts, of sectors of `size` bytes each; past the last sector, the bytes of the whole image.

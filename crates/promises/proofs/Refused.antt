@@ -14,7 +14,6 @@ use Rattle.ticket.proofs.Steps.{set_exactly, refused_keeps, value-exactly, value
 use Rattle.image.specs.Check.{check_of}
 use Rattle.image.proofs.Exact.{exact}
 use Rattle.image.proofs.Answers.{check_exactly, refused_zeros}
-use Rattle.image.proofs.Causes.{because-exactly, no-fault-exactly, why-says}
 use Rattle.reads.specs.Card.{read_shell, read_directory, read_table}
 use Rattle.reads.specs.Entry.{read_entry, read_chain}
 use Rattle.reads.specs.Ticket.{read_ticket, buffer_after}
@@ -31,8 +30,6 @@ pub demand1 : Demand1
 unfolding read_shell read_directory read_table read_entry read_chain read_ticket buffer_after
 demand1 = record {
   check = λ c. (check_exactly c, refused_zeros (check_of c));
-  why = λ c. let s = why-says c in (because-exactly c, no-fault-exactly c, s.0, s.1);
-  by_numbers = (refl, (λ n a. refl), refl, (λ j x. (refl, refl, refl)), λ k j x. refl);
   read-shell = λ c. (exact c, values-refused _ 16 _);
   read-directory = λ c. (exact c, values-refused _ 7 _);
   read-table = λ c. (exact c, λ h. (value-refused _ _ h, values-refused _ 252 _ h));

@@ -1,7 +1,7 @@
 -- The page to sign: the three demands, sentence by sentence in the request's order and words, each a statement over the definitions that README lists.
 -- A published call's contract says that its answer and each lent byte are what the definition named here gives: `check_of`, `read_ticket`, `answer`, `next` ..
 -- `Kept.kept` proves the page, and contracts `Once` that each contract leaves no choice. An image or buffer is a list of bytes (`Bytes`). Assumes nothing.
-use Rattle.std.specs.Prelude.{◌≡◌, ◌↔◌, ◌≢◌, ◌⊎◌, List, [], ◌∷◌, ◌++◌, map, ℕ, ◌+◌, ◌-◌, ◌*◌, ◌%◌, ◌^◌, ◌≤◌, ◌<◌, length, get_or, set, take, drop, replicate}
+use Rattle.std.specs.Prelude.{◌≡◌, ◌↔◌, ◌≢◌, ◌⊎◌, List, [], ◌∷◌, ◌++◌, ℕ, ◌+◌, ◌-◌, ◌*◌, ◌%◌, ◌^◌, ◌≤◌, ◌<◌, length, get_or, set, take, drop, replicate}
 use Rattle.rules.specs.Claim.{Means, ◌≤?◌, rule, Answers}
 use Rattle.bits.specs.Bits.{Bytes, digit, bit, field, store, Outside}
 use Rattle.fields.specs.Lists as lists
@@ -16,7 +16,6 @@ use Rattle.dates.specs.Calendar.{date, stamp_date, dated, date_of, stamp_of}
 use Rattle.dates.specs.Impossible.{Unstamped}
 use Rattle.chains.specs.Chain.{In, Chain, last_of}
 use Rattle.chains.specs.Psi.{Ψ, IsPsi}
-use Rattle.chains.specs.declared.Fault.TheVariants.{Zero, Above, Passed}
 use Rattle.shell.specs.Shell as shell
 use Rattle.shell.specs.Encode as shell-call
 use Rattle.directory.specs.Records.{entry_bytes, entry_in, head_bytes, head_in, tail_bytes, tail_in}
@@ -36,13 +35,6 @@ use Rattle.image.specs.Product.{element_at, product_at}
 use Rattle.image.specs.Obeys.{IsProduct, Obeys, Says, Gives}
 use Rattle.image.specs.Answer.{number_of, entry_of, values_of}
 use Rattle.image.specs.Check.{check_of}
-use Rattle.image.specs.Because.{rule_names, Because}
-use Rattle.image.specs.Why.{why_of}
-use Rattle.image.specs.declared.Cause.{Cause}
-use Rattle.image.specs.declared.Cause.TheVariants as cause
-use Rattle.image.specs.declared.RuleName.{RuleName}
-use Rattle.causes.specs.Reasons.{place_of, reason_of}
-use Rattle.causes.specs.declared.reasons.Reason.{Reason}
 use Rattle.image.specs.Mistyped.{digit_at, mistyped, exchanged}
 use Rattle.reads.specs.Values.{directory_values, entry_values, ticket_rules, kind_at, ticket_end, extent}
 use Rattle.reads.specs.Card.{read_shell, read_directory, read_table}
@@ -63,10 +55,6 @@ use Rattle.jobs.specs.Named.{Named}
 abbrev pub Exactly : ℕ → ℕ → (ℕ → ℕ → Type 0) → Type 0
 Exactly n e G = (m f : ℕ) → ((n ≡ m) × (e ≡ f)) ↔ G m f
 
--- a cause by these numbers
-abbrev pub reason : ℕ → ℕ → ℕ → ℕ → ℕ → Reason
-reason n e w x j = record { number = n; entry = e; cause = w; sector = x; other = j }
-
 -- each place starts where the one before ends, from bit a to bit e
 abbrev pub Meets : ℕ → List Span → ℕ → Type 0
 Meets a [] e = a ≡ e
@@ -76,15 +64,6 @@ Meets a (p ∷ ps) e = (p.0 ≡ a) × Meets (a + p.1) ps e
 pub record Demand1 : Type 0 where
   -- "A refusal gives its number and the entry concerned", "and the image and any buffer lent with it keep all their old bytes"; zeros else ("Numbers given back")
   pub check : (c : List ℕ) → Exactly (number_of (check_of c)) (entry_of (check_of c)) (Says c) × (number_of (check_of c) ≢ 0 → values_of (check_of c) ≡ replicate 9 0)
-  -- T-05: "The cause named must be proved a fact of that image, and the first in the stated order. An accepted image gets "no fault" and only then"; and its
-  -- number and entry are those of check
-  pub why : (c : List ℕ) → ((w : Cause) → (why_of c ≡ w) ↔ Because c w) × ((why_of c ≡ cause.NoFault) ↔ Obeys c)
-      × ((reason_of (why_of c)).number ≡ number_of (check_of c)) × ((reason_of (why_of c)).entry ≡ entry_of (check_of c))
-  -- a cause by numbers: the number, the entry, the cause, the sector and the other entry; the rules are told by their places, from 1 on
-  pub by_numbers : (reason_of cause.NoFault ≡ reason 0 0 0 0 0) × ((n : ℕ) (a : RuleName) → reason_of (cause.Rule n a) ≡ reason n 0 (place_of a) 0 0)
-      × (map place_of rule_names ≡ 1 ∷ 2 ∷ 3 ∷ 4 ∷ 5 ∷ 6 ∷ 7 ∷ 8 ∷ 9 ∷ 10 ∷ 11 ∷ 12 ∷ 13 ∷ 14 ∷ 15 ∷ 16 ∷ 17 ∷ 18 ∷ 19 ∷ 20 ∷ 21 ∷ 22 ∷ [])
-      × ((j x : ℕ) → (reason_of (cause.Broken j x Zero) ≡ reason 10 j 23 x 0) × (reason_of (cause.Broken j x Above) ≡ reason 10 j 24 x 0)
-      × (reason_of (cause.Broken j x Passed) ≡ reason 10 j 25 x 0)) × ((k j x : ℕ) → reason_of (cause.Shared k j x) ≡ reason 11 k 26 x j)
   pub read-shell : (c : List ℕ) → Exactly (read_shell c).number (read_shell c).entry (Says c) × ((read_shell c).number ≢ 0 → (read_shell c).values ≡ replicate 16 0)
   pub read-directory : (c : List ℕ)
       → Exactly (read_directory c).number (read_directory c).entry (Says c) × ((read_directory c).number ≢ 0 → (read_directory c).values ≡ replicate 7 0)

@@ -1,5 +1,4 @@
 pub mod ClaimLaws
 pub mod First
-pub mod CodeLaws
 pub mod LowestLaws
 pub mod AnswerLaws

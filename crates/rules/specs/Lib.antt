@@ -1,6 +1,5 @@
 pub mod Claim
 pub mod First
-pub mod Codes
 pub mod Rows
 pub mod Lowest
 pub mod Answer

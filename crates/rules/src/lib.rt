@@ -1,6 +1,4 @@
 // The numbers that a refusal gives (document 01, "Numbers given back"), each by its name. 0 is success.
-pub mod codes;
-
 ghost use Rattle.std.specs.Prelude.{◌≡◌};
 ghost use Rattle.rules.specs.First.{if_kept};
 

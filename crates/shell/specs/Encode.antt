@@ -11,10 +11,6 @@ use Rattle.shell.specs.Shell.{values_in, dataset_of, digit_rules, check_digit_ru
 abbrev pub isrn_rules : List ℕ → List Rule
 isrn_rules vs = digit_rules vs ++ (check_digit_rule vs ∷ [])
 
--- the first values of a shell that has these digits
-abbrev pub with_digits : ℕ → ℕ → ℕ → ℕ → List ℕ
-with_digits iin oid issn chd = 0 ∷ 0 ∷ 0 ∷ iin ∷ oid ∷ issn ∷ chd ∷ []
-
 -- the same by words: `high` is its first two digits, `low` the sixteen others
 abbrev pub word_rules : ℕ → ℕ → List Rule
 word_rules high low = rule 8 (decimal 16 high) ∷ rule 8 (decimal 16 low) ∷ rule 12 ((luhn (digits_of 16 low) + luhn (digits_of 16 high)) % 10 ≡? 0) ∷ []

@@ -1,16 +1,13 @@
 // The shell record: its sixteen values, and the dataset that holds them with zero padding and SECR.
-ghost use Rattle.std.specs.Prelude.{◌≡◌, ◌-◌, ◌*◌, ◌^◌, ◌≤◌, ◌<◌, length};
+ghost use Rattle.std.specs.Prelude.{◌≡◌, ◌-◌, ◌*◌, ◌≤◌, ◌<◌, length};
 ghost use Rattle.rules.specs.First.{first};
-ghost use Rattle.rules.specs.Codes.{coded};
 ghost use Rattle.rules.specs.Answer.{says};
-ghost use Rattle.shell.specs.Shell.{dataset_of, form_rules, digit_rules, body_of, encoded_shell};
-ghost use Rattle.shell.specs.Encode.{with_digits, word_rules, decode_of, encode_number, encode_in};
+ghost use Rattle.shell.specs.Shell.{dataset_of, form_rules, body_of, encoded_shell};
+ghost use Rattle.shell.specs.Encode.{word_rules, decode_of, encode_number, encode_in};
 
 use digits::{decimal, ends_right};
 use fields::Layout;
-use rules::{
-    Answer, TOO_LARGE, WRONG_CHECK_DIGIT, WRONG_DIGIT, WRONG_ROOM, WRONG_SHELL, codes, need,
-};
+use rules::{Answer, TOO_LARGE, WRONG_CHECK_DIGIT, WRONG_DIGIT, WRONG_ROOM, WRONG_SHELL, need};
 
 // The sixteen values in the order of document 01.
 #[repr(C)]
@@ -24,13 +21,13 @@ pub const SHELL_LENGTH: usize = 0;
 
 pub const SHELL_BIT_MAP: usize = 1;
 
-pub const IIN: usize = 3;
+const IIN: usize = 3;
 
-pub const OID: usize = 4;
+const OID: usize = 4;
 
-pub const ISSN: usize = 5;
+const ISSN: usize = 5;
 
-pub const CHD: usize = 6;
+const CHD: usize = 6;
 
 pub const SECTOR_BYTES: usize = 12;
 
@@ -49,26 +46,6 @@ pub fn form(map: u64, bytes: usize) -> usize
     }
     if bytes < 22 {
         return WRONG_SHELL;
-    }
-    0
-}
-
-// 8 of a digit: the code of the first of IIN, OID, ISSN and CHD that has one above 9; 0 where none has.
-pub fn digit_rule(iin: u64, oid: u64, issn: u64, chd: u64) -> usize
-    requires { (iin < 2 ^ 24) × (oid < 2 ^ 16) × (issn < 2 ^ 28) × (chd < 2 ^ 4) }
-    ensures { result ≡ first (coded 16 (digit_rules (with_digits iin oid issn chd))) }
-{
-    if !decimal(iin) {
-        return codes::IIN;
-    }
-    if !decimal(oid) {
-        return codes::OID;
-    }
-    if !decimal(issn) {
-        return codes::ISSN;
-    }
-    if !decimal(chd) {
-        return codes::CHD;
     }
     0
 }

@@ -15,7 +15,7 @@ ghost use Rattle.image.specs.Found.{found_of, last_at, count_at};
 ghost use Rattle.verdict.specs.Passed.{passed_of, unsound_of};
 
 use image::{Checked, Found, Shape, entry_at, table_of};
-pub use measure::{extent_rule, number, of_shell, shape_of};
+pub use measure::shape_of;
 use rules::{BROKEN_CHAIN, NO_PRODUCT, SHARED_SECTOR};
 
 // Whether entry j is not empty: TYP's byte is looked at first.
@@ -86,7 +86,7 @@ fn chosen(asked: bool, new: usize, old: usize) -> usize
 // 10 and 11, in one pass over the entries, as `unsound` gives them; else what it finds of one entry, 65536 times: its chain's last sector, and 256 for each
 // of its sectors, 0 where it is no product. The walks together are allowed S-3 elements, which is enough while no two chains share a sector. Where there is
 // no chain the walk gives 0, which counts as a last sector met before; it is asked for first, which is cheaper.
-pub fn chains(image: &[u8], entry: usize) -> usize
+fn chains(image: &[u8], entry: usize) -> usize
     requires { Bounds image.now }
     ensures { result ≡ passed_of (lowest (e# image.now) (broken_at image.now)) (lowest (e# image.now) (shares_at image.now)) (last_at image.now entry) (count_at image.now entry) }
 {

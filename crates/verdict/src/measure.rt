@@ -7,23 +7,22 @@ ghost use Rattle.fields.specs.Lists as lists;
 ghost use Rattle.fields.specs.Lists.{nth};
 ghost use Rattle.fields.specs.declared.Layout.TheVariants as layout;
 ghost use Rattle.rules.specs.First.{first};
-ghost use Rattle.rules.specs.Codes.{coded};
 ghost use Rattle.image.specs.Image.{shell_values, SECR, before_SECR, table_pad};
 ghost use Rattle.image.specs.Bounds.{Bounds};
 ghost use Rattle.image.specs.Shape.{Shaped};
-ghost use Rattle.image.specs.Rules.{head_rules, extent_rules, size_rules, content_rules, rules};
+ghost use Rattle.image.specs.Rules.{head_rules, size_rules, content_rules, rules};
 ghost use Rattle.shell.specs.Encode.{isrn_rules};
 
 use fields::Layout;
 use image::{Shape, sector_from};
 use rules::{
     NO_SHELL, WRONG_COPY, WRONG_DIGIT, WRONG_LENGTH, WRONG_SECR, WRONG_SIZE, WRONG_TABLE,
-    WRONG_VERSION, codes, need,
+    WRONG_VERSION, need,
 };
 use shell::{ENTRY_COUNT, SECTOR_BYTES, SECTOR_COUNT, SHELL_BIT_MAP, SHELL_LENGTH, TABLE_LENGTH};
 
 // The field i of the shell of an image, as a size.
-pub fn of_shell(image: &[u8], i: usize) -> usize
+fn of_shell(image: &[u8], i: usize) -> usize
     requires { (i < 16) × (36 ≤ length image.now) }
     ensures { (result ≡ value_at layout.Shell i (drop 4 image.now)) × (result < 2 ^ (nth lists.shell i).1) }
 {
@@ -60,40 +59,6 @@ fn head(image: &[u8]) -> usize
     0
 }
 
-// Number 6: the code of its first rule that is not kept; 0 where all are.
-pub fn extent_rule(image: &[u8]) -> usize
-    requires { 36 ≤ length image.now }
-    ensures { result ≡ first (coded 8 (extent_rules image.now)) }
-{
-    let dataset = 4 * of_shell(image, SHELL_LENGTH);
-    let b = of_shell(image, SECTOR_BYTES);
-    let s = of_shell(image, SECTOR_COUNT);
-    let e = of_shell(image, ENTRY_COUNT);
-    let t = of_shell(image, TABLE_LENGTH);
-    if s < 4 {
-        return codes::SECTORS;
-    }
-    if b < 32 {
-        return codes::SECTOR_SIZE;
-    }
-    if (e < 1) | (s - 3 < e) {
-        return codes::ENTRIES;
-    }
-    if t != chains::table_bytes(s) {
-        return codes::TABLE_LENGTH;
-    }
-    if b < 16 + 5 * e + t {
-        return codes::DIRECTORY_SIZE;
-    }
-    if b < dataset {
-        return codes::SHELL_LENGTH;
-    }
-    if image.len() != sector_from(b, s) {
-        return codes::IMAGE_LENGTH;
-    }
-    0
-}
-
 // Numbers 5 and 6.
 fn sizes(image: &[u8]) -> usize
     requires { 36 ≤ length image.now }
@@ -104,7 +69,35 @@ fn sizes(image: &[u8]) -> usize
     if form != 0 {
         return form;
     }
-    need(WRONG_SIZE, extent_rule(image) == 0, 0)
+    let b = of_shell(image, SECTOR_BYTES);
+    let s = of_shell(image, SECTOR_COUNT);
+    let e = of_shell(image, ENTRY_COUNT);
+    let t = of_shell(image, TABLE_LENGTH);
+    if s < 4 {
+        return WRONG_SIZE;
+    }
+    if b < 32 {
+        return WRONG_SIZE;
+    }
+    if e < 1 {
+        return WRONG_SIZE;
+    }
+    if s - 3 < e {
+        return WRONG_SIZE;
+    }
+    if t != chains::table_bytes(s) {
+        return WRONG_SIZE;
+    }
+    if b < 16 + 5 * e + t {
+        return WRONG_SIZE;
+    }
+    if b < dataset {
+        return WRONG_SIZE;
+    }
+    if image.len() != sector_from(b, s) {
+        return WRONG_SIZE;
+    }
+    0
 }
 
 // Whether the `count` bytes from byte `from` on are all zero: the first two, and then four by four.

@@ -7,4 +7,3 @@ pub mod Told
 pub mod Night
 pub mod Area
 pub mod Mixed
-pub mod Causes

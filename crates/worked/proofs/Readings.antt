@@ -4,7 +4,7 @@ use mathlib.Core.List.{List, [], ◌∷◌, ◌++◌}
 use Prim.Native.Nat.{ℕ}
 use lib.ListN.{replicate}
 use Rattle.bits.specs.Bits.{digit, bit, number, field}
-use Rattle.chains.specs.declared.Fault.TheVariants.{Zero}
+use Rattle.chains.specs.Breaks.{is_zero}
 use Rattle.chains.specs.Walk.{Walk, found, broken, link, member, walk_on, walk}
 use Rattle.chains.specs.Packed.{element_in}
 use Rattle.image.specs.Image.{sectors}
@@ -22,7 +22,7 @@ unfolding walked walk_on member link field number bit digit
 ends = (refl, refl, refl)
 
 -- 4: 0 says that the sector is free, so no chain passes it
-free : walked 0x00 ≡ broken (record { sector = 1; fault = Zero; consulted = 1 })
+free : walked 0x00 ≡ broken (record { sector = 1; fault = is_zero; consulted = 1 })
 unfolding walked walk_on member link field number bit digit
 free = refl
 

@@ -4,7 +4,6 @@ from model.table import BLOCKED, FRESH, USED, psi
 
 from .cards import (NIGHT, element_set, entry_set, kinds_plan, night_plan, product_bits_set, random_record, record_with)
 from .forms import (BIG, FORMS, MOST_VALUES, UNLISTED, form_of, most, name, place, unlisted_revisions, unpacked, whole_place)
-from .script import number_of
 
 REVISION = (12, 4)
 IPE_LENGTH = (0, 6)
@@ -29,10 +28,11 @@ def whole_reads(script, plan):
     script.say("table", expect=words([0, 0] + plan.elements()))
 
 
-def refused_calls(script, dice, plan, image, why):
-    """Every call on an image that is refused with this cause and entry 0: zeros, and no byte of the image or of the buffer altered."""
-    refusal = words(number_of(why))
-    script.card(image, why)
+def refused_calls(script, dice, plan, image, number):
+    """Every call on an image that is refused with this number and entry 0: zeros, and no byte of the image or of the buffer altered."""
+    refusal = words([number, 0])
+    script.load(image)
+    script.say("check", expect=refusal)
     script.say("list", expect="refused " + refusal)
     script.say("shell", expect=words([refusal] + [0] * 16))
     script.say("directory", expect=words([refusal] + [0] * 7))

@@ -10,9 +10,8 @@ from .script import Script
 CARD = "card"
 LONG_LINE = "x" * 300000
 LINES = ("save", "save ", "save a b", "save missing/card", "save taken", "touched", "touched ", "touched missing", "touched long",
-         "touched other", "touched card", "touched card other", "why", "why 1", "why card", "image 4", "at 0 00", "keep", "crc 00",
-         "value 1 2", "decode-head 0000", "value 22 4 1", "decode-ticket 21 1 -", "set 22 1", "set 22 4 1 1", "encode-ticket 278 2",
-         "record 1 21 1", "record 1 22 1")
+         "touched other", "touched card", "touched card other", "image 4", "at 0 00", "keep", "crc 00", "value 1 2", "decode-head 0000",
+         "value 22 4 1", "decode-ticket 21 1 -", "set 22 1", "set 22 4 1 1", "encode-ticket 278 2", "record 1 21 1", "record 1 22 1")
 
 
 class DeskScript(Script):

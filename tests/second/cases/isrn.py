@@ -14,7 +14,6 @@ OVER = "abcdef"
 PARTS = ((0, 6), (6, 10), (10, 17), (17, 18))
 OID_PLACES = range(6, 10)
 CHD_PLACE = 17
-PART_OF = ("iin",) * 6 + ("oid",) * 4 + ("issn",) * 7 + ("chd",)
 
 # Numbers of seventeen digits with the right eighteenth, counted by hand: all zeros, all nines, and operators at the ends of their range and
 # beyond it, which is not judged.

@@ -3,7 +3,7 @@
 from model.fields import SHELL
 from model.table import psi, table_length
 
-from . import calls, faults, tables
+from . import calls, faults
 from .calls import record_line, words
 from .cards import crowded_plan, full_plan, kinds_plan, random_plan, random_record
 from .forms import BIG, FORMS, MOST_BYTES, MOST_VALUES, UNLISTED, most, name
@@ -13,12 +13,12 @@ NONSENSE = ("", " ", "?", "Check", "check 1", "check ", " check", "shell 1", "di
             "entry 1 2", "entry x", "entry -1", "chain", "chain 18446744073709551616", "ticket", "ticket 1 65537",
             "ticket 1 1 1", "rest", "rest 1 65537", "buffer", "buffer 65537", "buffer -", "field 1 1", "field 1 1 1 1",
             "record 1", "mark 1", "mark 1 1 1", "image", "image 65536", "image -", "at 0", "at 0 0", "at 0 AA",
-            "at 18446744073709551615 00", "at 65535 00", "keep 1", "bytes 1", "touched 1", "list 1", "why 1", "why ", "unknown", "encode",
+            "at 18446744073709551615 00", "at 65535 00", "keep 1", "bytes 1", "touched 1", "list 1", "unknown", "encode",
             "decode-entry 00", "encode-entry 1", "date x", "crc", "encode-table 4", "value 1", "set 1", "say_check",
             "record 1 22", "record 1 22 1", "record 1 22 1 0", "record 1 23 2 x", "set 22 1", "set 22 1 1 1", "encode-ticket 22 2",
             "encode-ticket 21", "encode-ticket 23 18446744073709551616", "record 1 18446744073709551616 2")
 
-ON_AN_IMAGE = ("check", "why", "list", "reads", "steps", "touched")
+ON_AN_IMAGE = ("check", "list", "reads", "steps", "touched")
 
 
 def random_case(script, dice):
@@ -32,20 +32,18 @@ def random_case(script, dice):
         return good_case(script, dice)
     if kind < 75:
         plan = random_plan(dice, small=dice.chance(60))
-        number = dice.pick(faults.ORDER + (10, 11, 12, 12))
+        number = dice.pick(faults.ORDER + (12, 12))
         images = list(faults.BY_NUMBER[number](dice, plan, plan.image()))
-        image, why = dice.pick(images) if images else (plan.image(), faults.GOOD)
+        image, answer = dice.pick(images) if images else (plan.image(), faults.GOOD)
     elif kind < 82:
-        image, why = faults.several_faults(dice, random_plan(dice, small=dice.chance(60)))
+        image, answer = faults.several_faults(dice, random_plan(dice, small=dice.chance(60)))
     elif kind < 90:
-        image, why = faults.mutated(dice, random_plan(dice, small=dice.chance(60))), None
-    elif kind < 94:
-        image, why = faults.tangled(dice), None
+        image, answer = faults.mutated(dice, random_plan(dice, small=dice.chance(60))), None
     elif kind < 97:
-        image, why = dice.pick(list(tables.hand_cases(dice, dice.pick(tables.SECTORS))))
+        image, answer = faults.tangled(dice), None
     else:
-        image, why = raw_bytes(dice), None
-    open_case(script, dice, image, why)
+        image, answer = raw_bytes(dice), None
+    open_case(script, dice, image, answer)
     return image
 
 
@@ -77,7 +75,8 @@ def good_case(script, dice):
     if dice.below(60) == 0:
         plan = dice.pick([full_plan, crowded_plan, lambda _: kinds_plan()])(dice)
     image = plan.image()
-    script.card(image, faults.GOOD, fresh=True)
+    script.load(image, fresh=True)
+    script.say("check", expect="0 0")
     listed(script, plan.listing())
     if dice.chance(50):
         calls.whole_reads(script, plan)
@@ -90,8 +89,7 @@ def good_case(script, dice):
         if dice.chance(25):
             script.say(calls.random_read(dice, plan))
     script.say("touched")
-    script.say("check", expect="0 0")
-    script.say("why", expect=faults.GOOD)
+    script.say("check")
     show_bytes(script, dice)
     random_calls(script, dice, plan, 3)
     return image
@@ -125,9 +123,10 @@ def nonsense(script, dice):
     script.say(dice.pick(NONSENSE), expect="?")
 
 
-def open_case(script, dice, image, why):
+def open_case(script, dice, image, answer):
     """An image that may be refused, with calls that must keep all its bytes."""
-    script.card(image, why, fresh=True)
+    script.load(image, fresh=True)
+    script.number("check", expect=answer)
     listed(script)
     for text in dice.some(["shell", "directory", "table", "entry 1", "chain 1", "ticket 1", "rest 1", "ticket 2 64",
                            "entry 2", "chain 2", "chain 3", "chain 0"], 5):

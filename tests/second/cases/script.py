@@ -44,14 +44,6 @@ class Script:
                 self.wrong.append((" ".join(str(part) for part in parts), given, tuple(expect)))
         return answer
 
-    def card(self, image, why=None, fresh=False):
-        """Load a card and ask for its check and its cause, whose number and entry are the same."""
-        self.load(image, fresh)
-        checked, told = self.say("check"), self.say("why", expect=why)
-        wanted = why or told
-        if checked and wanted and checked != "%d %d" % number_of(wanted):
-            self.wrong.append(("check", checked, wanted))
-
     def load(self, image, fresh=False):
         """Make this the image, unless fresh by the changed bytes alone where that is shorter."""
         self.cards += 1
@@ -65,11 +57,6 @@ class Script:
                 patch = whole
         for text in patch:
             self.say(text, expect="ok")
-
-
-def number_of(why):
-    """The number and the entry of a line that names a cause."""
-    return (0, 0) if why == "no fault" else tuple(int(word) for word in why.split(" ")[:2])
 
 
 def commands(old, new):

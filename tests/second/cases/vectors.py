@@ -1,10 +1,9 @@
 """The choice of commands that is kept with its answers, group by group."""
 
-from . import between, calls, faults, mix, tables, values
+from . import between, calls, faults, mix, values
 from .cards import Plan, crowded_plan, full_plan, kinds_plan, night_plan, random_plan, roomy_plan, smallest_plan
 from .dice import Dice
 from .forms import FORMS, UNLISTED
-from .script import number_of
 
 SECTORS = (4, 5, 6, 7, 8, 9, 15, 16, 17, 24, 31, 32, 33, 63, 64, 65, 127, 128, 129, 237, 255)
 
@@ -61,59 +60,50 @@ def check_group(script, dice):
     plans += [random_plan(dice, sparse=True, sizes=sizes) for sizes in
               ((16, 64, 5), (17, 64, 5), (24, 128, 14), (44, 252, 41), (32, 100, 10), (33, 255, 30))]
     for plan in plans:
-        for image, why in faults.boundary_cases(dice, plan):
+        for image, answer in faults.boundary_cases(dice, plan):
             if len(image) < 3000 or len(image) == len(plan.image()):
-                script.card(image, why)
-    cases = []
+                script.load(image)
+                script.number("check", expect=answer)
     for plan in [roomy_plan(dice, sizes, sparse=True) for sizes in ((16, 64, 5), (7, 255, 4))]:
-        cases += list(faults.every_digit_cases(dice, plan, plan.image())) + list(faults.dataset_cases(dice, plan))
+        for image, answer in list(faults.every_digit_cases(dice, plan, plan.image())) + list(faults.dataset_cases(dice, plan)):
+            script.load(image)
+            script.number("check", expect=answer)
     plan = Plan(9, 48, 3)
-    cases += faults.single_bits(dice, plan, plan.image(), range(40))
-    cases += list(faults.smallest_cases(dice)) + list(faults.largest_cases(dice))
+    for image, answer in faults.single_bits(dice, plan, plan.image(), range(40)):
+        script.load(image)
+        script.number("check", expect=answer)
+    for image, answer in list(faults.smallest_cases(dice)) + list(faults.largest_cases(dice)):
+        script.load(image)
+        script.number("check", expect=answer)
     for _ in range(6):
-        cases += [(image, why) for image, why in faults.directory_size_cases(dice) if len(image) < 2500]
+        for image, answer in faults.directory_size_cases(dice):
+            if len(image) < 2500:
+                script.load(image)
+                script.number("check", expect=answer)
     for plan in [random_plan(dice, small=True) for _ in range(12)] + [random_plan(dice, sparse=True, sizes=(17, 80, 7))]:
-        cases += [faults.several_faults(dice, plan) for _ in range(12)]
+        for _ in range(12):
+            image, answer = faults.several_faults(dice, plan)
+            script.load(image)
+            script.number("check", expect=answer)
     for plan in [random_plan(dice, small=True) for _ in range(6)]:
-        cases += [(faults.mutated(dice, plan), None) for _ in range(15)]
-    cases += [(faults.tangled(dice, sparse=True), None) for _ in range(80)]
-    cases += [(mix.raw_bytes(dice), None) for _ in range(20)]
-    for image, why in cases:
-        script.card(image, why)
-
-
-def why_group(script, dice):
-    script.say("image 0", expect="0")
-    script.say("why", expect="1 0 short")
-    script.say("why 1", expect="?")
-    script.say("why ", expect="?")
-    script.say("image 65535", expect="65535")
-    script.say("why", expect="1 0 length")
-    for place, part, why in ((0, "ffff", "2 0 version"), (2, "01ff", "3 0 copy"), (3, "01", "5 0 dataset-short"), (4, "1810", "5 0 bit-map"),
-                             (5, "00", "6 0 sectors"), (21, "ff", "6 0 sector-size"), (20, "ff", "6 0 entries"), (22, "01", "6 0 table-length"),
-                             (23, "fc", "6 0 directory-size")):
-        script.say("at", place, part, expect="ok")
-        script.say("why", expect=why)
-    for image, why in faults.two_faults(dice, roomy_plan(dice, (17, 64, 5), sparse=True)):
-        script.card(image, why)
-    for S in (14, 16, 17, 32, 63, 65, 128, 129, 212):
-        for image, why in tables.hand_cases(dice, S, sparse=True):
-            script.card(image, why)
-    for sizes in ((63, 255, 20), (64, 255, 20), (129, 255, 16), (200, 255, 8)):
-        for image, why in faults.boundary_cases(dice, roomy_plan(dice, sizes, sparse=True), (9, 10, 11)):
-            script.card(image, why)
-    for plan in (example_plan(), crowded_plan(dice), night_plan(), kinds_plan()):
-        script.card(plan.image(), faults.GOOD)
+        for _ in range(15):
+            script.load(faults.mutated(dice, plan))
+            script.say("check")
+    for _ in range(80):
+        script.load(faults.tangled(dice, sparse=True))
+        script.say("check")
+    for _ in range(20):
+        script.load(mix.raw_bytes(dice))
+        script.say("check")
 
 
 def list_group(script, dice):
     plan = example_plan()
     script.load(plan.image())
     script.say("list", expect=["card 16 64 2 A", "1 23 used 1 3", "2 23 fresh 2"])
-    for image, why in faults.boundary_cases(dice, plan, (10, 11)):
+    for image, _ in faults.boundary_cases(dice, plan, (10, 11)):
         script.load(image)
         script.say("list")
-        script.say("why", expect=why)
     script.load(faults.byte_set(plan.image(), plan.table_place(), 0x33))
     script.say("list", expect="refused 11 2")
     script.say("list 1", expect="?")
@@ -123,17 +113,15 @@ def list_group(script, dice):
     for _ in range(40):
         script.load(faults.tangled(dice, sparse=True))
         script.say("list")
-    for image, why in list(faults.smallest_cases(dice)) + list(faults.largest_cases(dice)):
+    for image, _ in list(faults.smallest_cases(dice)) + list(faults.largest_cases(dice)):
         if len(image) <= 60439:
             script.load(image)
             script.say("list")
-            script.say("why", expect=why)
     plan = random_plan(dice, small=True)
     for number in faults.ORDER:
-        for image, why in dice.some(faults.BY_NUMBER[number](dice, plan, plan.image()), 3):
+        for image, answer in dice.some(faults.BY_NUMBER[number](dice, plan, plan.image()), 3):
             script.load(image)
-            script.say("list", expect="refused %d %d" % number_of(why) if why != faults.GOOD else None)
-            script.say("why", expect=why)
+            script.say("list", expect="refused %d %d" % answer if answer[0] else None)
 
 
 def reads_group(script, dice):
@@ -161,13 +149,12 @@ def reads_group(script, dice):
             calls.buffer_calls(script, dice, plan, j, plan.product_length(j) < 600)
             calls.ticket_calls(script, dice, plan, good, j, plan.product_length(j) < 100)
     for plan in plans[:6]:
-        calls.refused_calls(script, dice, plan, faults.mistyped(dice, plan.image()), "12 0 check-digit")
+        calls.refused_calls(script, dice, plan, faults.mistyped(dice, plan.image()), 12)
         for number in faults.ORDER:
-            for image, why in dice.some(faults.BY_NUMBER[number](dice, plan, plan.image()), 1):
+            for image, answer in dice.some(faults.BY_NUMBER[number](dice, plan, plan.image()), 1):
                 script.load(image)
-                script.say("why", expect=why)
                 for text in dice.some(["shell", "directory", "table", "entry 1", "chain 1", "ticket 1", "ticket 0"], 3):
-                    script.number(text, expect=number_of(why) if why != faults.GOOD else None)
+                    script.number(text, expect=answer if answer[0] else None)
                 script.say(dice.pick(["rest 1 200", "rest 1", "ticket 1 200"]))
                 script.say("buffer 203")
     plan = full_plan(dice)
@@ -223,12 +210,11 @@ def steps_group(script, dice):
         for _ in range(12):
             script.say(calls.random_step(dice, plan))
         whole()
-        for image, why in ((faults.byte_set(good, 2, 0), "2 0 version"), (faults.mistyped(dice, good), "12 0 check-digit")):
+        for image, number in ((faults.byte_set(good, 2, 0), 2), (faults.mistyped(dice, good), 12)):
             script.load(image)
             for _ in range(4):
                 text = calls.random_step(dice, plan)
-                script.number(text, expect=number_of(why))
-            script.say("why", expect=why)
+                script.number(text, expect=(number, 0))
             whole()
     larger = with_tickets(dice, 16, False, True) + with_tickets(dice, 1, False, True, (237, 255, 1))
     larger += [full_plan(dice), crowded_plan(dice)]
@@ -269,7 +255,7 @@ def touched_group(script, dice):
         between.touched_calls(script, dice, plan)
 
 
-IN_ORDER = (("crc", crc_group), ("dates", dates_group), ("records", records_group), ("check", check_group), ("why", why_group),
+IN_ORDER = (("crc", crc_group), ("dates", dates_group), ("records", records_group), ("check", check_group),
             ("list", list_group), ("reads", reads_group), ("steps", steps_group), ("touched", touched_group))
 
 
