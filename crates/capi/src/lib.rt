@@ -1,4 +1,6 @@
 // The card library for C: calls, and nothing but calls. include/card.h says each in a sentence.
+#![tactic(auto)]
+
 ghost use Rattle.std.specs.Prelude.{◌≡◌, length};
 ghost use Rattle.rules.specs.Answer.{says};
 ghost use Rattle.shell.specs.Encode as shells;

@@ -1,5 +1,6 @@
 // The card library: every call and type that a validator names, and nothing else.
 // A crate that uses it lists in crates.txt the crates that declare these types, too.
+#![tactic(auto)]
 
 // Whether an image is accepted.
 pub use image::{Checked, Shape};

@@ -68,7 +68,7 @@ module _ (f : ℕ → ℕ) (S : ℕ) where
   so-broken {ps} {i} (here (zero_met z)) (suc n) p l = rw (view-bad (p.sectors i (inl refl)) (view S i (f i)) (zero_met z))
   so-broken {ps} {i} (here (above_met z)) (suc n) p l = rw (view-bad (p.sectors i (inl refl)) (view S i (f i)) (above_met z))
   so-broken {ps} {i} (here (comes_back z)) (suc n) p l = rw (view-to (p.sectors i (inl refl)) (view S i (f i)) (passed-names p z), in-member (f i) ps z)
-  so-broken {ps} {i} (onward a h r) (suc n) p l = rw (view-to (p.sectors i (inl refl)) (view S i (f i)) a, not-member (f i) ps h, so-broken r n (passed_on p a h) (omega arith))
+  so-broken {ps} {i} (onward a h r) (suc n) p l = rw (view-to (p.sectors i (inl refl)) (view S i (f i)) a, not-member (f i) ps h, so-broken {ps = i ∷ ps} r n (passed_on p a h) (omega arith))
 
   consulted-few : {ps : List ℕ} {i : ℕ} {b : Break} → Breaks f S ps i b → Passed S ps i → b.consulted ≤ S - 3
   consulted-few (here a) p = passed-few p

@@ -2,7 +2,7 @@
 -- have a sector in common exactly when they end in the same one; and a new mark changes the chain's mark alone.
 -- Assumes nothing.
 use mathlib.Core.Path.{◌≡◌, refl, sym, ap, subst, ◌∙◌}
-use mathlib.Core.Logic.{◌≢◌, ◌↔◌, ◌⊎◌, inl, inr, ⊎_elim}
+use mathlib.Core.Logic.{◌≢◌, ◌↔◌, inl, inr, ⊎_elim}
 use mathlib.Core.List.{List, [], ◌∷◌}
 use mathlib.Core.Bool.{Bool, true, false}
 use Prim.Native.Nat.{ℕ, zero, suc, ◌-◌, ◌≤◌}
@@ -109,6 +109,7 @@ module _ (f : ℕ → ℕ) (S : ℕ) where
 
   pub leads-sectors : {i m : ℕ} {ss : List ℕ} → Sector S i → Leads f S i ss m → (x : ℕ) → In x ss → Sector S x
   leads-sectors s (last a) x (inl p) = subst (λ (k : ℕ). Sector S k) (sym p) s
+  leads-sectors s (last {i = i} {m = m} a) x (inr p) = elim p [ ]
   leads-sectors s (then a q) x (inl p) = subst (λ (k : ℕ). Sector S k) (sym p) s
   leads-sectors s (then a q) x (inr p) = leads-sectors a.sector q x p
 
@@ -140,6 +141,7 @@ module _ (f : ℕ → ℕ) (S : ℕ) where
   pub rest : {i m : ℕ} {ss : List ℕ} → Leads f S i ss m → (x : ℕ) → In x ss → Rest x m ss
   rest {i} {m} (last a) x (inl p) =
       record { sectors = i ∷ []; leads = subst (λ (k : ℕ). Leads f S k (i ∷ []) m) (sym p) (last a); short = omega arith; same-last = refl }
+  rest (last {i = i} {m = m} a) x (inr p) = elim p [ ]
   rest {i} {m} (then {ss = ss} a q) x (inl p) =
       record { sectors = i ∷ ss; leads = subst (λ (k : ℕ). Leads f S k (i ∷ ss) m) (sym p) (then a q); short = omega arith; same-last = refl }
   rest {i} (then a q) x (inr p) =
@@ -276,6 +278,7 @@ module _ (f g : ℕ → ℕ) (S l : ℕ) (same : (x : ℕ) → Sector S x → x 
 -- an element that ends a chain stands at its last sector alone
 ends_last : (f : ℕ → ℕ) (S l : ℕ) {i m k : ℕ} {ss : List ℕ} → Sector S i → Ends S l (f l) k → Leads f S i ss m → In l ss → last_of ss ≡ l
 ends_last f S l s b (last a) (inl p) = sym p
+ends_last f S l {k = k} s b (last {i = i} {m = m} a) (inr p) = elim p [ ]
 ends_last f S l {k = k} s b (then a q) (inl p) = absurd (ends-or-names s (subst (λ (x : ℕ). Ends S x (f x) k) p b) a)
 ends_last f S l {i} s b (then a q) (inr p) = last_cons f S q i ∙ ends_last f S l a.sector b q p
 

@@ -1,4 +1,6 @@
 // The walk of a sector chain over a packed table that stands anywhere in a slice.
+#![tactic(auto)]
+
 ghost use Rattle.std.specs.Prelude.{◌≡◌, ℕ, ◌*◌, ◌/◌, ◌%◌, ◌<◌, ◌≤◌, length};
 ghost use Rattle.bits.specs.Bits.{store};
 ghost use Rattle.chains.specs.Chain.{Sector};
@@ -8,7 +10,7 @@ ghost use Rattle.chains.specs.Psi.{Ψ, table_bytes};
 ghost use Rattle.chains.specs.Packed.{Inside, element_at, element_in, tabled, last_left, last_told, left_told, mark_said};
 
 // A chain table: the bit where it starts, the bits of an element, and the number of sectors.
-#[derive(Drop)]
+#[derive(Clone, Copy)]
 pub struct Table {
     pub first: usize,
     pub psi: usize,

@@ -5,7 +5,7 @@ use mathlib.Core.List.{List, ◌++◌}
 use Prim.Native.Nat.{ℕ, ◌+◌, ◌-◌, ◌≤◌, ◌<◌, min}
 use native.Mathlib.Omega.{arith}
 use lib.ListN.{length, take, drop, replicate, length-take, length-drop}
-use lib.Seq.{take-length, take_all}
+use lib.Seq.{take_all}
 use lib.Dec.{eqb}
 use borrow.Author.Tests.{lt-ltb, le-ltb, le-leb, lt-leb, eq-eqb, ne_eqb}
 use borrow.Rule.Slice.PartMut.{mid_of, post_of, put_mid}
@@ -64,13 +64,11 @@ module _ (c w : List ℕ) (p q n : ℕ) where
       let m : p + n - p ≡ n = omega arith in
       rw (r, m, ← k, ← e, y, z)
 
-pub keep_made : (b k x : List ℕ) (s : State) (m n : ℕ) → m ≡ min (length b) (length k) → n ≡ min s.image m → n ≤ length b → x ≡ take (length (mid_of 0 (n - 0) b)) (mid_of 0 (n - 0) b) ++ drop (length (mid_of 0 (n - 0) b)) k → (record { image = s.image; kept = n; all = s.all } ≡ kept_state b k s) × (x ≡ kept_in b k s)
+pub keep_made : (b k x : List ℕ) (s : State) (m n : ℕ) → m ≡ min (length b) (length k) → n ≡ min s.image m → n ≤ length b → x ≡ mid_of 0 (n - 0) b → (record { image = s.image; kept = n; all = s.all } ≡ kept_state b k s) × (x ++ post_of 0 (n - 0) k ≡ kept_in b k s)
 unfolding kept_in
 keep_made b k x s m n e f h r =
     let z : n - 0 ≡ n = omega arith in
-    let q : length (take n b) ≡ n = simp length-take (omega arith) in
-    let t = take-length (take n b) in
-    rw (← e, ← f, r, z, t, q) (refl, refl)
+    rw (← e, ← f, r, z) (refl, refl)
 
 pub place_made : (l b x : List ℕ) (s : State) (e a n : ℕ) → e ≡ word_end l 0 → a ≡ after_blank l e → n ≡ size_in b s → x ≡ overwritten (place_of (number_of (mid_of 0 (e - 0) l))) (mid_of a (length l - a) l) (mid_of 0 (n - 0) b) → (s ≡ s) × (x ++ post_of 0 (n - 0) b ≡ placed_in l b s)
 unfolding placed_in

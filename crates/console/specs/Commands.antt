@@ -76,13 +76,13 @@ common =
     ∷ listed "date" "1" (λ n a b c. Reckon (reckon.Date a))
     ∷ listed "stamp" "3" (λ n a b c. Reckon (reckon.Stamp a b c))
     ∷ listed "set" "*" (λ n a b c. valued a b 4 n (Reckon (reckon.Set a b c)))
-    ∷ listed "encode_entry" "7" (λ n a b c. Encode encode.Entry)
-    ∷ listed "encode_head" "3" (λ n a b c. Encode encode.Head)
-    ∷ listed "encode_tail" "4" (λ n a b c. Encode encode.Tail)
-    ∷ listed "encode_header" "3" (λ n a b c. Encode encode.Header)
-    ∷ listed "encode_ticket" "*" (λ n a b c. valued a b 2 n (Encode (encode.Ticket a b)))
-    ∷ listed "encode_shell" "17" (λ n a b c. Encode (encode.Shell a))
-    ∷ listed "encode_table" "*" (λ n a b c. Encode (encode.Table a b))
+    ∷ listed "encode-entry" "7" (λ n a b c. Encode encode.Entry)
+    ∷ listed "encode-head" "3" (λ n a b c. Encode encode.Head)
+    ∷ listed "encode-tail" "4" (λ n a b c. Encode encode.Tail)
+    ∷ listed "encode-header" "3" (λ n a b c. Encode encode.Header)
+    ∷ listed "encode-ticket" "*" (λ n a b c. valued a b 2 n (Encode (encode.Ticket a b)))
+    ∷ listed "encode-shell" "17" (λ n a b c. Encode (encode.Shell a))
+    ∷ listed "encode-table" "*" (λ n a b c. Encode (encode.Table a b))
     ∷ []
 
 -- those that the test program has besides
@@ -98,9 +98,9 @@ trial =
     ∷ listed "decode-head" "*" (λ n a b c. Decode decode.Head)
     ∷ listed "decode-tail" "*" (λ n a b c. Decode decode.Tail)
     ∷ listed "decode-header" "*" (λ n a b c. Decode decode.Header)
-    ∷ listed "decode_ticket" "*" (λ n a b c. Decode decode.Ticket)
+    ∷ listed "decode-ticket" "*" (λ n a b c. Decode decode.Ticket)
     ∷ listed "decode-shell" "*" (λ n a b c. Decode decode.Shell)
-    ∷ listed "decode_table" "*" (λ n a b c. Decode decode.Table)
+    ∷ listed "decode-table" "*" (λ n a b c. Decode decode.Table)
     ∷ []
 
 -- those that the desk has besides

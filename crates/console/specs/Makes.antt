@@ -1,5 +1,5 @@
 -- What the test program's own commands leave: the image, the kept image, and how long they are. Assumes nothing.
-use Rattle.std.specs.Prelude.{ℕ, ◌+◌, ◌-◌, min, cond, List, ◌++◌, length, take, drop, replicate, eqb, leb, ltb}
+use Rattle.std.specs.Prelude.{ℕ, ◌-◌, min, cond, List, ◌++◌, length, take, drop, replicate, eqb, leb, ltb}
 use Rattle.text.specs.declared.Number.{Number}
 use Rattle.text.specs.declared.Number.TheVariants.{Is, Not}
 use Rattle.text.specs.Words.{none, fronted, word_end, after_blank}

@@ -133,7 +133,7 @@ fn named(all: bool, word: &[u8], count: usize, a: u64, b: u64, n: u64) -> Comman
     let i = words::place(
         word,
         count,
-        b"check 0 bytes 0 list 0 shell 0 directory 0 table 0 entry 1 chain 1 ticket 1 ticket 2 rest 1 rest 2 buffer 1 field 3 record * mark 2 date 1 stamp 3 set * encode_entry 7 encode_head 3 encode_tail 4 encode_header 3 encode_ticket * encode_shell 17 encode_table *",
+        b"check 0 bytes 0 list 0 shell 0 directory 0 table 0 entry 1 chain 1 ticket 1 ticket 2 rest 1 rest 2 buffer 1 field 3 record * mark 2 date 1 stamp 3 set * encode-entry 7 encode-head 3 encode-tail 4 encode-header 3 encode-ticket * encode-shell 17 encode-table *",
     );
     if i < 26 {
         return common(i, count, a, b, n);
@@ -143,7 +143,7 @@ fn named(all: bool, word: &[u8], count: usize, a: u64, b: u64, n: u64) -> Comman
             words::place(
                 word,
                 count,
-                b"image 1 keep 0 touched 0 at * value * crc * decode-entry * decode-head * decode-tail * decode-header * decode_ticket * decode-shell * decode_table *",
+                b"image 1 keep 0 touched 0 at * value * crc * decode-entry * decode-head * decode-tail * decode-header * decode-ticket * decode-shell * decode-table *",
             ),
             count,
             a,

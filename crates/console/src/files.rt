@@ -1,43 +1,40 @@
 // Image files: one is read whole, and one is written beside its place and then put there.
 use crate::commands::File;
 use crate::{LARGEST, between};
+use std::fs::{OpenFile, OpenOptions};
+use std::io::{Read, Write};
+use std::rt::Files;
+use std::{fs, str};
 use text::words::NONE;
 use text::{prints, words};
 
 // Reads a file that is shorter than the buffer, and gives its size; NONE where it can't be read or is not shorter.
-pub(crate) fn load(path: &[u8], into: &mut [u8]) -> usize {
-    let fd = os::open_read(path);
-    if fd < 0 {
+pub(crate) fn load<F: Files>(rt: &F, path: &[u8], into: &mut [u8]) -> usize {
+    let Ok(name) = str::from_utf8(path) else {
         return NONE;
-    }
-    let n = load_from(fd, into);
-    libc::close(fd);
-    n
+    };
+    let Ok(mut file) = fs::open(rt, name) else {
+        return NONE;
+    };
+    load_from(&mut file, into)
 }
 
-fn load_from(fd: i32, into: &mut [u8]) -> usize {
+fn load_from<R: Read>(file: &mut R, into: &mut [u8]) -> usize {
     let mut n = 0;
     while n < into.len() {
-        let got = libc::read(fd, &mut into[n..]);
-        if got <= 0 {
-            return ended(got, n);
-        }
-        let more = words::least(io::count(got, into), into.len() - n);
-        if more == 0 {
+        let Ok(more) = file.read(&mut into[n..]) else {
             return NONE;
+        };
+        if more == 0 {
+            return n;
         }
         n += more;
     }
     NONE
 }
 
-// What a read that moved nothing means: the end of the file, or a failure.
-fn ended(got: isize, n: usize) -> usize {
-    if got == 0 { n } else { NONE }
-}
-
 // Writes a new file beside the path, which nothing may stand at, and renames it; where that fails the path is as it was.
-fn save(path: &[u8], image: &[u8]) -> bool {
+fn save<F: Files>(rt: &F, path: &[u8], image: &[u8]) -> bool {
     let mut space = io::buffer();
     let name: &mut [u8] = &mut space;
     let dot = text::put(name, 0, path);
@@ -46,40 +43,53 @@ fn save(path: &[u8], image: &[u8]) -> bool {
         return false;
     }
     let whole = &name[..];
-    save_by(&whole[0..end], path, image)
+    save_by(rt, &whole[0..end], path, image)
 }
 
-fn save_by(name: &[u8], path: &[u8], image: &[u8]) -> bool {
-    let fd = os::create(name);
-    if fd < 0 {
+fn save_by<F: Files>(rt: &F, name: &[u8], path: &[u8], image: &[u8]) -> bool {
+    let Ok(beside) = str::from_utf8(name) else {
         return false;
-    }
-    let is_written = io::write_all(fd, image);
-    let synced = libc::fsync(fd);
-    let closed = libc::close(fd);
-    if is_written & (synced == 0) & (closed == 0) {
-        if os::rename(name, path) == 0 {
+    };
+    let Ok(place) = str::from_utf8(path) else {
+        return false;
+    };
+    let Ok(file) = OpenOptions::new()
+        .write(true)
+        .create_new(true)
+        .open(rt, beside)
+    else {
+        return false;
+    };
+    if written(file, image) {
+        if fs::rename(rt, beside, place).is_ok() {
             return true;
         }
     }
-    os::unlink(name);
+    let _ = fs::remove_file(rt, beside);
     false
 }
 
+// Writes the whole image to a file, has it on the disk, and closes the file.
+fn written<W: Write + OpenFile + Drop>(mut file: W, image: &[u8]) -> bool {
+    let is_written = file.write_all(image).is_ok();
+    let synced = file.sync_all().is_ok();
+    is_written & synced
+}
+
 // Answers the desk's commands on files, each with one word after it that names the file.
-pub(crate) fn answer(asked: File, path: &[u8], image: &[u8]) {
+pub(crate) fn answer<F: Files>(rt: &F, asked: File, path: &[u8], image: &[u8]) {
     if (words::first(path) < path.len()) | (path.len() == 0) {
         prints::unknown();
         return;
     }
     match asked {
-        File::Save => save_to(path, image),
-        File::Touched => touched_since(path, image),
+        File::Save => save_to(rt, path, image),
+        File::Touched => touched_since(rt, path, image),
     }
 }
 
-fn save_to(path: &[u8], image: &[u8]) {
-    if save(path, image) {
+fn save_to<F: Files>(rt: &F, path: &[u8], image: &[u8]) {
+    if save(rt, path, image) {
         prints::say(b"saved\n");
     } else {
         prints::say(b"not saved\n");
@@ -87,9 +97,9 @@ fn save_to(path: &[u8], image: &[u8]) {
 }
 
 // The file's image is the one before.
-fn touched_since(path: &[u8], image: &[u8]) {
+fn touched_since<F: Files>(rt: &F, path: &[u8], image: &[u8]) {
     let mut before = io::large_buffer();
-    let size = load(path, &mut before);
+    let size = load(rt, path, &mut before);
     if LARGEST < size {
         prints::say(b"not read\n");
         return;

@@ -1,4 +1,6 @@
 // The desk and the test program: each line of standard input is answered on standard output, from an image.
+#![tactic(auto)]
+
 mod between;
 mod changes;
 mod commands;
@@ -16,6 +18,8 @@ ghost use Rattle.console.specs.Obeys.{held, after_command, LentBy, after_line, L
 
 use commands::Command;
 pub use listing::{LARGEST_ACCEPTED, list};
+use std::io::Read;
+use std::rt::Files;
 use text::words::MOST;
 use text::{feed, prints, words};
 
@@ -34,25 +38,25 @@ struct State {
 }
 
 // The desk on the image of a file.
-pub fn desk(path: &[u8]) {
+pub fn desk<F: Files, R: Read>(rt: &F, reader: &mut R, path: &[u8]) {
     let mut image = io::large_buffer();
-    let size = files::load(path, &mut image);
+    let size = files::load(rt, path, &mut image);
     if LARGEST < size {
         prints::say(b"not an image file of up to 65535 bytes that can be read: ");
         prints::say(path);
         prints::end();
         return;
     }
-    run(&mut image, size, false);
+    run(rt, reader, &mut image, size, false);
 }
 
 // The test program: every command of the desk but those on files, and those by which an image is made and bytes are decoded.
-pub fn trial() {
+pub fn trial<F: Files, R: Read>(rt: &F, reader: &mut R) {
     let mut image = io::large_buffer();
-    run(&mut image, 0, true);
+    run(rt, reader, &mut image, 0, true);
 }
 
-fn run(image: &mut [u8], size: usize, all: bool)
+fn run<F: Files, R: Read>(rt: &F, reader: &mut R, image: &mut [u8], size: usize, all: bool)
     ensures { Ran all size image.old image.new }
 {
     let mut input = feed::room();
@@ -63,11 +67,13 @@ fn run(image: &mut [u8], size: usize, all: bool)
         kept: 0,
         all: all,
     };
-    answers(&mut input, image, &mut kept, &mut buffer, s);
+    answers(rt, reader, &mut input, image, &mut kept, &mut buffer, s);
 }
 
 // Answers every line of standard input.
-fn answers(
+fn answers<F: Files, R: Read>(
+    rt: &F,
+    reader: &mut R,
     input: &mut [u8],
     image: &mut [u8],
     kept: &mut [u8],
@@ -80,9 +86,9 @@ fn answers(
     let mut f = feed::none();
     let mut turns = u64::MAX;
     while 0 < turns {
-        f = feed::next(input, f);
+        f = feed::next(reader, input, f);
         if f.given {
-            s = answer(feed::line(input, f), image, kept, buffer, s);
+            s = answer(rt, feed::line(input, f), image, kept, buffer, s);
         }
         turns = fewer(turns, f.ended);
     }
@@ -98,7 +104,14 @@ fn fewer(turns: u64, ended: bool) -> u64
 }
 
 // Answers a line.
-fn answer(line: &[u8], image: &mut [u8], kept: &mut [u8], buffer: &mut [u8], s: State) -> State
+fn answer<F: Files>(
+    rt: &F,
+    line: &[u8],
+    image: &mut [u8],
+    kept: &mut [u8],
+    buffer: &mut [u8],
+    s: State,
+) -> State
     ensures { (held image.new kept.new result ≡ after_line line.now (held image.old kept.old s)) × LentByLine line.now (held image.old kept.old s) buffer.old buffer.new }
 {
     let end = words::first(line);
@@ -107,6 +120,7 @@ fn answer(line: &[u8], image: &mut [u8], kept: &mut [u8], buffer: &mut [u8], s: 
     let asked = read.command;
     let list = read.list;
     obey(
+        rt,
         asked,
         read.count,
         &list,
@@ -119,7 +133,8 @@ fn answer(line: &[u8], image: &mut [u8], kept: &mut [u8], buffer: &mut [u8], s: 
 }
 
 // Does what is asked; `rest` is what stands after the command's word and a blank.
-fn obey(
+fn obey<F: Files>(
+    rt: &F,
     asked: Command,
     count: usize,
     list: &[u64; MOST],
@@ -140,7 +155,7 @@ fn obey(
         Command::Encode(encode) => encodes::encode(encode, count, list),
         Command::Make(make) => return makes::make(make, rest, image, kept, s),
         Command::Decode(decode) => decodes::decode(decode, rest),
-        Command::File(file) => files::answer(file, rest, &image[0..n]),
+        Command::File(file) => files::answer(rt, file, rest, &image[0..n]),
         Command::Unknown => prints::unknown(),
     }
     s

@@ -43,7 +43,7 @@ fn keep(image: &[u8], kept: &mut [u8], s: State) -> State
     ensures { (result ≡ kept_state image.now kept.old s) × (kept.new ≡ kept_in image.now kept.old s) }
 {
     let n = words::least(s.image, words::least(image.len(), kept.len()));
-    bytes::copy(&image[0..n], kept);
+    kept[0..n].copy_from_slice(&image[0..n]);
     prints::say(b"ok\n");
     State {
         image: s.image,

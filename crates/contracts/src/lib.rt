@@ -1,5 +1,7 @@
 // What the contracts are worth: no published call asks anything first, and none leaves a choice (proofs/Once, and OnceC for C). Its code holds the two names of
 // crate `card` that the C library has not to their contracts: calls, and nothing but calls.
+#![tactic(auto)]
+
 ghost use Rattle.std.specs.Prelude.{◌≡◌, ◌+◌, length};
 ghost use Rattle.image.specs.Check.{check_of};
 ghost use Rattle.reads.specs.Ticket.{rest, rest_at};

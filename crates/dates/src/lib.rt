@@ -1,4 +1,6 @@
 // Date stamps and calendar dates, both ways (document 01, "Dates").
+#![tactic(auto)]
+
 ghost use Rattle.std.specs.Prelude.{◌≡◌};
 ghost use Rattle.dates.specs.Calendar.{day_of, date_of, stamp_of};
 

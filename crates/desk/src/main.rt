@@ -1,10 +1,13 @@
 // A desk for trying every call of the library on the image in a file.
-fn main() {
+#![tactic(auto)]
+
+use std::rt::Env;
+
+fn main(rt: HostRuntime) {
     let mut path = io::buffer();
-    let length = os::arg(1, &mut path);
-    if os::errno() != 0 {
+    let Ok(length) = rt.arg(1, &mut path) else {
         text::prints::say(b"desk FILE: the file of an image is to be named\n");
         return;
-    }
-    console::desk(&path[..length]);
+    };
+    console::desk(&rt, &mut rt.stdin(), &path[..length]);
 }

@@ -1,4 +1,6 @@
 // Digits of four bits, up to sixteen at a time: whether they are decimal, and whether the last is their check digit.
+#![tactic(auto)]
+
 ghost use Rattle.std.specs.Prelude.{◌≡◌, ◌+◌, ◌%◌, ◌<◌, eqb};
 ghost use Rattle.rules.specs.Claim.{Means};
 ghost use Rattle.rules.specs.First.{holds};

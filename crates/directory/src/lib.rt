@@ -1,4 +1,6 @@
 // The directory's entries and its two ends, between values and bytes. Its chain table is crate table's.
+#![tactic(auto)]
+
 ghost use Rattle.std.specs.Prelude.{◌≡◌};
 ghost use Rattle.directory.specs.Records.{entry_bytes, entry_in, head_bytes, head_in, tail_bytes, tail_in};
 

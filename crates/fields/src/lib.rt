@@ -1,4 +1,6 @@
 // Lists of fields that meet end to end: one list for each record of the card, and the routines that read and store by a list.
+#![tactic(auto)]
+
 mod plans;
 
 ghost use Rattle.std.specs.Prelude.{◌≡◌, ◌+◌, ◌*◌, ◌<◌, ◌≤◌, length, replicate};
@@ -12,11 +14,11 @@ ghost use Rattle.fields.specs.Packed.{pack_number, pack_in};
 pub use plans::{MOST_BYTES, MOST_VALUES, Plan, lay, typ22r1, typ22r2, typ22r3, typ23, values};
 
 // The first bit and the width of a field.
-#[derive(Drop)]
+#[derive(Clone, Copy)]
 pub struct Span(pub u16, pub u16);
 
 // The records of the card: each has its own list.
-#[derive(Drop)]
+#[derive(Clone, Copy)]
 pub enum Layout {
     Image,
     Shell,

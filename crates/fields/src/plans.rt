@@ -17,11 +17,11 @@ pub const MOST_VALUES: usize = 25;
 pub const MOST_BYTES: usize = 27;
 
 // A part of a list: so many values, in so many bytes.
-#[derive(Drop)]
+#[derive(Clone, Copy)]
 pub struct Part(pub u16, pub u16);
 
 // A list: `count` places, with places of no width after them, and `many` parts.
-#[derive(Drop)]
+#[derive(Clone, Copy)]
 pub struct Plan {
     pub places: [Span; MOST_VALUES],
     pub count: usize,

@@ -1,5 +1,7 @@
 // The image: where each thing stands in it, the rules of document 01 in their order, and what an accepted image is. This crate holds the
 // definitions, their laws, and the code of the places; `verdict` holds the code of the rules.
+#![tactic(auto)]
+
 pub mod values;
 
 ghost use Rattle.std.specs.Prelude.{◌≡◌, ◌+◌, ◌*◌, ◌≤◌, ◌<◌};
@@ -11,7 +13,7 @@ ghost use Rattle.image.specs.Shape.{Shaped, entry_place, sector_place, table_of}
 use chains::Table;
 
 // The numbers by which everything in an image is found.
-#[derive(Drop)]
+#[derive(Clone, Copy)]
 pub struct Shape {
     pub copy: usize,
     pub dataset: usize,
@@ -25,14 +27,14 @@ pub struct Shape {
 }
 
 // What a check answers.
-#[derive(Drop)]
+#[derive(Clone, Copy)]
 pub enum Checked {
     Accepted(Shape),
     Refused(usize, usize),
 }
 
 // What a call on one product finds: the last sector of its chain, and the number of its sectors; or the refusal, which is the image's own or 20.
-#[derive(Drop)]
+#[derive(Clone, Copy)]
 pub enum Found {
     There(usize, usize),
     Not(usize, usize),

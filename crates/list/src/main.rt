@@ -1,5 +1,8 @@
 // Lists a card: reads one image from standard input, and prints its header line and a line for each product, or why it is refused.
-use libc::STDIN_FILENO;
+#![tactic(auto)]
+
+// The descriptor of standard input.
+const STDIN_FILENO: i32 = 0;
 
 fn main() {
     let mut buf = [0u8; console::LARGEST_ACCEPTED + 1];

@@ -1,4 +1,6 @@
 // The mark of a product's chain: does its own checking, and stores through the part of the image that is the directory sector in force.
+#![tactic(auto)]
+
 ghost use Rattle.std.specs.Prelude.{◌≡◌, ◌-◌, ◌≤◌};
 ghost use Rattle.bits.specs.Bits.{store};
 ghost use Rattle.chains.specs.Chain.{Sector};

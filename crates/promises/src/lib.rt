@@ -1,1 +1,2 @@
 // What the demands say of several calls together: definitions and proofs, and nothing to run.
+#![tactic(auto)]

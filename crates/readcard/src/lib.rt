@@ -1,5 +1,7 @@
 // Reading the card: its shell, its directory and its chain table, and in `entry` one entry and its chain. Each call checks the image itself;
 // refused, it gives the number, the entry, and zeros in all else.
+#![tactic(auto)]
+
 mod entry;
 
 ghost use Rattle.std.specs.Prelude.{◌≡◌, ◌++◌, ◌+◌, ◌-◌, ◌≤◌, length, drop};

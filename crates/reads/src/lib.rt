@@ -1,4 +1,5 @@
 // What the reads of a card answer. Refused, an answer has the number, the entry, and zeros in all else.
+#![tactic(auto)]
 
 // What reading the shell answers.
 #[repr(C)]

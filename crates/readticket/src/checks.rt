@@ -28,7 +28,7 @@ fn entry_of(found: Found) -> usize
 }
 
 // 21: whether the buffer holds the product.
-#[derive(Drop)]
+#[derive(Clone, Copy)]
 pub enum Room {
     Fits,
     Short,
@@ -45,7 +45,7 @@ fn check_room(size: usize, room: usize) -> Room
 }
 
 // What an entry states of its product, TYP and EXP; and what the product's first sector does, its header's three values.
-#[derive(Drop)]
+#[derive(Clone, Copy)]
 struct Stated {
     typ: u64,
     day: u64,
@@ -69,7 +69,7 @@ fn stated_of(image: &[u8], g: Shape, entry: usize) -> Stated
 }
 
 // A ticket that has passed the checks: the entry's TYP, its header, the length of its chain, its kind, its mark, and the entry's EXP as its day.
-#[derive(Drop)]
+#[derive(Clone, Copy)]
 pub struct Sound {
     pub typ: u64,
     pub blocks: u64,
@@ -81,7 +81,7 @@ pub struct Sound {
     pub day: u64,
 }
 
-#[derive(Drop)]
+#[derive(Clone, Copy)]
 pub enum Judged {
     Taken(Sound),
     Refused(usize, usize),

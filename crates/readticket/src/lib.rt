@@ -1,5 +1,7 @@
 // Reading a ticket: the checks, and then the copy into the lent buffer. Refused, a call gives the number, the entry and zeros in all else, and
 // the buffer keeps its bytes.
+#![tactic(auto)]
+
 mod checks;
 mod copy;
 

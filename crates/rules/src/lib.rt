@@ -1,4 +1,6 @@
 // The numbers that a refusal gives (document 01, "Numbers given back"), each by its name. 0 is success.
+#![tactic(auto)]
+
 ghost use Rattle.std.specs.Prelude.{◌≡◌};
 ghost use Rattle.rules.specs.First.{if_kept};
 

@@ -42,6 +42,7 @@ module _ (vs : List ℕ) where
   told (later a (later b (here x))) = inl (refl, later a (later b (here x)))
   told (later a (later b (later d (here x)))) = inl (refl, later a (later b (later d (here x))))
   told (later a (later b (later d (later e (here x))))) = inr (refl, (a, (b, (d, (e, tt)))))
+  told {n = n} (later a (later b (later d (later e (later _ x))))) = elim x [ ]
 
   not-kept : (Kept (digit_rules vs) → ⊥) → Fails (isrn_rules vs) 8
   not-kept h = go (found (isrn_rules vs) (omega arith))
@@ -84,6 +85,7 @@ module _ (vs : List ℕ) where
         go (one a (later mh (here x))) = stops (not-kept (λ k. x (decimal-words k).1))
         go (one a (later mh (later ml (here x)))) =
             stops (fails-after (digit_rules vs) (words-decimal mh ml) (here (λ z. x (rw (← summed) z))))
+        go {n = n} (one a (later mh (later ml (later _ x)))) = elim x [ ]
 
 -- ---- another CHD
 

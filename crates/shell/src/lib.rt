@@ -1,4 +1,6 @@
 // The shell record: its sixteen values, and the dataset that holds them with zero padding and SECR.
+#![tactic(auto)]
+
 ghost use Rattle.std.specs.Prelude.{◌≡◌, ◌-◌, ◌*◌, ◌≤◌, ◌<◌, length};
 ghost use Rattle.rules.specs.First.{first};
 ghost use Rattle.rules.specs.Answer.{says};

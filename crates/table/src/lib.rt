@@ -1,4 +1,6 @@
 // The sector chain table between its elements and its bytes.
+#![tactic(auto)]
+
 ghost use Rattle.std.specs.Prelude.{◌≡◌, ◌*◌, ◌≤◌, length, get_or, replicate};
 ghost use Rattle.rules.specs.First.{holds};
 ghost use Rattle.rules.specs.Claim.{every, ◌≤?◌};

@@ -1,3 +1,4 @@
+pub mod Found
 pub mod Tests
 pub mod Digits
 pub mod Spelled

@@ -8,13 +8,9 @@ use native.Mathlib.Omega.{arith}
 use lib.ListN.{length, take, drop, get_or, set, length-append, length-drop}
 use lib.Seq.{length-take-le, take-length, take_at, get_or-append-add, get_or-drop, paste-suc}
 use lib.Dec.{ltb}
-use lib.Signed.{le_z}
-use Rattle.bytes.specs.Bytes.{index_of, slice}
-use lib.IntN.{ℤ, pos, negsuc}
-use borrow.Author.Tests.{lt-ltb, le-ltb, leb-false, eq-eqb, ne_eqb}
+use Rattle.text.specs.Bytes.{index_of, slice}
+use borrow.Author.Tests.{lt-ltb, le-ltb, eq-eqb, ne_eqb}
 use borrow.Rule.Slice.PartMut.{put_mid}
-use Rattle.io.specs.Counts.{clamp_len}
-use Rattle.libc.specs.Io.{Moved}
 use Rattle.text.specs.declared.feed.Feed.{Feed}
 use Rattle.text.specs.Lines.{moved, last_line, no_line, after_read, filled_of, at_of, end_of, too_long, turn_of, sure_of, Begins, Turn, Reading}
 
@@ -72,11 +68,6 @@ module _ (b : List ℕ) (held : ℕ) (passing : Bool) (a : List ℕ) (kept : tak
   pub read-adds : (n : ℕ) → 0 < n → held + n ≤ length b → Reading b held passing a (no_line (held + n) passing)
   unfolding after_read
   read-adds n h k = record { gives = rw (lt-ltb held (held + n) (omega arith)); sure = kept; fits = k; ordered = omega arith; within = omega arith }
-
--- a read that succeeds adds a byte
-pub some : (got : ℤ) (room most : ℕ) → Moved room got → le_z got (pos 0) ≡ false → room ≤ most → 0 < min (clamp_len got most) room
-some (pos k) room most m t h = omega (arith, leb-false k 0 t)
-some (negsuc k) room most m t h = let z : ◌≡◌ {A = Bool} true false = t in let y : ◌≡◌ {A = ℕ} 0 1 = cc in omega arith
 
 -- ---- a turn
 

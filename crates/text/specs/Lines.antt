@@ -1,6 +1,6 @@
 -- The lines of an input that is read into a buffer, a part at a time. Assumes nothing.
 use Rattle.std.specs.Prelude.{ℕ, ◌+◌, ◌-◌, ◌≤◌, min, ◌≡◌, Bool, true, false, cond, not, List, ◌++◌, length, take, drop, eqb, ltb}
-use Rattle.bytes.specs.Bytes.{index_of, slice}
+use Rattle.text.specs.Bytes.{index_of, slice}
 use Rattle.text.specs.declared.feed.Feed.{Feed}
 
 -- before the first turn

@@ -3,7 +3,7 @@ ghost use Rattle.std.specs.Prelude.{◌≡◌, ◌-◌, ◌≤◌, length, repli
 ghost use Rattle.text.specs.Lines.{at_first, line_of, moved, Reading, Turn};
 
 use crate::words::least;
-use libc::STDIN_FILENO;
+use std::io::Read;
 
 const LINE_END: u8 = 10;
 
@@ -12,7 +12,7 @@ const ROOM: usize = 262144;
 
 // What a turn leaves: a line from `start` to `end`, if one is given; the bytes from `at` to `filled`, still to be looked at; whether they are the
 // rest of a line too long for the buffer; whether the input has ended.
-#[derive(Drop)]
+#[derive(Clone, Copy)]
 pub struct Feed {
     pub given: bool,
     pub start: usize,
@@ -56,12 +56,12 @@ pub fn none() -> Feed
 }
 
 // Gives the next line if a whole one was read, else reads once. A line that fills the buffer is given as an empty one, and its rest is passed over.
-pub fn next(input: &mut [u8], f: Feed) -> Feed
+pub fn next<R: Read>(reader: &mut R, input: &mut [u8], f: Feed) -> Feed
     ensures { Turn input.old f input.new result }
 {
     let filled = least(f.filled, input.len());
     let at = least(f.at, filled);
-    let end = bytes::scan::find(input, at, filled, LINE_END);
+    let end = crate::find(input, at, filled, LINE_END);
     if end < filled {
         return Feed {
             given: !f.passing,
@@ -74,7 +74,7 @@ pub fn next(input: &mut [u8], f: Feed) -> Feed
         };
     }
     if f.passing {
-        return more(input, 0, true);
+        return more(reader, input, 0, true);
     }
     let held = shift(input, at, filled);
     if held == input.len() {
@@ -88,16 +88,16 @@ pub fn next(input: &mut [u8], f: Feed) -> Feed
             ended: false,
         };
     }
-    more(input, held, false)
+    more(reader, input, held, false)
 }
 
 // Reads once, after the bytes held; at the end of the input these are the last line.
-fn more(input: &mut [u8], held: usize, passing: bool) -> Feed
+fn more<R: Read>(reader: &mut R, input: &mut [u8], held: usize, passing: bool) -> Feed
     requires { held ≤ length input.old }
     ensures { Reading input.old held passing input.new result }
 {
-    let got = libc::read(STDIN_FILENO, &mut input[held..]);
-    if got <= 0 {
+    let n = read(reader, &mut input[held..]);
+    if n == 0 {
         return Feed {
             given: 0 < held,
             start: 0,
@@ -108,7 +108,6 @@ fn more(input: &mut [u8], held: usize, passing: bool) -> Feed
             ended: true,
         };
     }
-    let n = least(io::count(got, input), input.len() - held);
     Feed {
         given: false,
         start: 0,
@@ -117,6 +116,16 @@ fn more(input: &mut [u8], held: usize, passing: bool) -> Feed
         filled: held + n,
         passing: passing,
         ended: false,
+    }
+}
+
+// Reads once, and counts the bytes: none at the end of the input, and none where the read fails.
+fn read<R: Read>(reader: &mut R, into: &mut [u8]) -> usize
+    ensures { result ≤ length into.old }
+{
+    match reader.read(into) {
+        Ok(n) => n,
+        Err(_) => 0,
     }
 }
 

@@ -1,10 +1,13 @@
 // Text: the words and numbers of a line, answers on standard output, and the lines of standard input.
+#![tactic(auto)]
+
 pub mod feed;
 pub mod hex;
 pub mod prints;
 pub mod words;
 
-ghost use Rattle.std.specs.Prelude.{◌≡◌, ◌≤◌, ◌<◌, length};
+ghost use Rattle.std.specs.Prelude.{◌≡◌, ◌+◌, ◌≤◌, ◌<◌, length};
+ghost use Rattle.text.specs.Bytes.{index_of, slice};
 ghost use Rattle.io.specs.Digits.{hex_digit_ascii as Digits·glyph};
 ghost use Rattle.text.specs.Words.{word_end, same};
 ghost use Rattle.text.specs.Numbers.{number_of, spelled};
@@ -35,7 +38,22 @@ pub fn end(line: &[u8], at: usize) -> usize
     requires { at ≤ length line.now }
     ensures { (result ≡ word_end line.now at) × (at ≤ result) × (result ≤ length line.now) }
 {
-    bytes::scan::find(line, at, line.len(), BLANK)
+    find(line, at, line.len(), BLANK)
+}
+
+// The place of the first byte `b` between two places; the second of them where there is none.
+fn find(s: &[u8], from: usize, to: usize, b: u8) -> usize
+    requires { (from ≤ to) × (to ≤ length s.now) }
+    ensures { (result ≡ from + index_of b (slice from to s.now)) × (from ≤ result) × (result ≤ to) }
+{
+    let mut i = from;
+    while i < to {
+        if s[i] == b {
+            return i;
+        }
+        i += 1;
+    }
+    to
 }
 
 // Whether a word is the given one.
@@ -115,7 +133,9 @@ pub fn put(out: &mut [u8], at: usize, text: &[u8]) -> usize
     if out.len() - at < n {
         return at;
     }
-    at + bytes::copy(text, &mut out[at..])
+    let end = at + n;
+    out[at..end].copy_from_slice(text);
+    end
 }
 
 // Writes a number's decimal digits.

@@ -3,7 +3,9 @@ ghost use Rattle.std.specs.Prelude.{◌<◌, ◌≤◌};
 
 use crate::DIGITS;
 use crate::words::least;
-use libc::STDOUT_FILENO;
+
+// The descriptor of standard output.
+const STDOUT_FILENO: i32 = 1;
 
 // How many bytes are written at once in hexadecimal.
 const PART: usize = 1024;

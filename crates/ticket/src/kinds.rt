@@ -10,7 +10,7 @@ ghost use Rattle.ticket.specs.Memory.{timed_by};
 use fields::{Layout, MOST_VALUES};
 
 // The kinds on the lists.
-#[derive(Drop)]
+#[derive(Clone, Copy)]
 pub enum Kind {
     Typ23,
     Typ22r1,

@@ -1,4 +1,6 @@
 // A ticket: its kind, its record, and both as bytes. What a kind has is looked up by its list (crate `fields`) and in `kinds`, and nowhere else.
+#![tactic(auto)]
+
 ghost use Rattle.std.specs.Prelude.{◌≡◌, ◌^◌, ◌≤◌, ◌<◌, take};
 ghost use Rattle.rules.specs.First.{holds};
 ghost use Rattle.fields.specs.Padded.{most, held};

@@ -4,7 +4,7 @@ use mathlib.Core.Path.{◌≡◌, refl, sym, ap, ◌∙◌}
 use mathlib.Core.Logic.{◌≢◌}
 use mathlib.Core.Bool.{Bool, true, false, ◌&&◌, false≢true}
 use mathlib.Core.List.{List, [], ◌∷◌, ◌++◌, append-nil}
-use Prim.Native.Nat.{ℕ, zero, suc, ◌+◌, ◌≤◌}
+use Prim.Native.Nat.{ℕ, zero, suc, ◌≤◌}
 use native.Mathlib.Decide.{ℕ_discrete}
 use native.Mathlib.Omega.{arith}
 use lib.Dec.{eqb}
@@ -110,7 +110,7 @@ module _ (c d : List ℕ) (n₀ : ℕ) (long : (i : ℕ) → Sector n₀ i → l
           view-to s (view n₀ i (element c i)) a,
           eq-eqb i i refl,
           alike-append (sector c i) (joined c ss) (sector d i) (joined d ts) (long i s),
-          together n a.sector p (rw (sym z) at q) (omega arith),
+          together {i = element c i} n a.sector p (rw (sym z) at q) (omega arith),
         )
         (going_on (same_sector i) (alike ss ts) (eqb m k) (alike (joined c ss) (joined d ts)))
   ]

@@ -1,4 +1,6 @@
 // Which entries differ between two images.
+#![tactic(auto)]
+
 ghost use Rattle.std.specs.Prelude.{◌≡◌, ◌+◌, ◌-◌, ◌≤◌, length, take, drop};
 ghost use Rattle.rules.specs.First.{first};
 ghost use Rattle.chains.specs.Chain.{Sector};

@@ -1,4 +1,6 @@
 // The verdict on an image: the numbers 1 to 8, 12, and 9 to 11, in this order, and, for a call on one product, 20.
+#![tactic(auto)]
+
 mod measure;
 
 ghost use Rattle.std.specs.Prelude.{◌≡◌, ◌/◌, ◌%◌, ◌≤◌, ◌<◌};

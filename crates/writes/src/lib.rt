@@ -1,4 +1,6 @@
 // Writes on a product, of one field or of all: each does its own checking, and stores through the part of the image that is the product's first sector.
+#![tactic(auto)]
+
 ghost use Rattle.std.specs.Prelude.{◌≡◌, [], ◌∷◌, ◌+◌, ◌*◌, ◌≤◌, take};
 ghost use Rattle.fields.specs.Lists.{list_of};
 ghost use Rattle.fields.specs.Fields.{stores, shifted};

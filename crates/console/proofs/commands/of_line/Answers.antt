@@ -1,0 +1,10 @@
+-- `commands::of_line` meets its contract: the first word ends at the first blank, and the list holds the numbers of the others.
+-- Assumes nothing.
+use Rattle.console.proofs.Read.{of_line}
+use Rattle.console.proofs.commands.of_line.Goals as goal
+
+pub returns : goal.returns
+returns c =
+    let a = c.args in
+    let e = c.numbers-count.ensures in
+    (of_line a.all a.text.now _ _ _ _ c.first-end.ensures.0 e.0 e.1 c.named-command.ensures, e.0, e.1)
