@@ -24,7 +24,7 @@ use Rattle.table.specs.Coded as table-call
 use Rattle.ticket.specs.Kind.{row_of, kind_of, count_of, rest_of, listed, field_rule, set_rules}
 use Rattle.ticket.specs.declared.kinds.Kind.{Kind}
 use Rattle.ticket.specs.Ticket as ticket
-use Rattle.ticket.specs.Ticket.{setOf, value_of, header_bytes, header_in}
+use Rattle.ticket.specs.Ticket.{set_of, value_of, header_bytes, header_in}
 use Rattle.ticket.specs.Memory.{own_of, own, held_changed, held_decoded, held_encoded}
 use Rattle.ticket.specs.declared.Changed.{Changed}
 use Rattle.ticket.specs.declared.Decoded.{Decoded}
@@ -116,7 +116,7 @@ pub record Demand1 : Type 0 where
   pub own_bytes : (t r : ℕ) (b xs : List ℕ) → rest_of (kind_of t r).layout - 2 ≤ length b → ticket.decode_of t r (b ++ xs) ≡ ticket.decode_of t r b
   -- refused, a record step gives back the record it took; the decoders of other arrays than a ticket's give no number and can't refuse
   pub record_set : (t : Record) (n v : ℕ)
-      → Exactly (setOf t n v).number (setOf t n v).entry (Answers (rule 22 (listed (kind_of t.typ t.revision).layout) ∷ set_rules (kind_of t.typ t.revision).layout n v)) × ((setOf t n v).number ≢ 0 → (setOf t n v).next ≡ t)
+      → Exactly (set_of t n v).number (set_of t n v).entry (Answers (rule 22 (listed (kind_of t.typ t.revision).layout) ∷ set_rules (kind_of t.typ t.revision).layout n v)) × ((set_of t n v).number ≢ 0 → (set_of t n v).next ≡ t)
   pub record_value : (t : Record) (n : ℕ)
       → Exactly (value_of t n).number (value_of t n).entry (Answers (rule 22 (listed (kind_of t.typ t.revision).layout) ∷ field_rule (kind_of t.typ t.revision).layout n ∷ [])) × ((value_of t n).number ≢ 0 → (value_of t n).value ≡ 0)
   pub encode_shell : (vs l : List ℕ) → Exactly (shell-call.encode_number vs (length l)) 0 (Answers (shell.encode_rules vs (length l)))
@@ -241,7 +241,7 @@ pub record Demand2 : Type 0 where
       → (table-call.encode_in s es l ≡ stores (replicate (length l) 0) (table.element_places s) es)
       × (table-call.decode_of s (table-call.encode_in s es l) ≡ record { number = 0; entry = 0; count = s - 3; elements = es ++ replicate (252 - (s - 3)) 0 })
   pub stamp_written : (y m d : ℕ) → (stamp_of y m d).number ≡ 0 → ((stamp_of y m d).stamp ≤ 16383) × (stamp_date (stamp_of y m d).stamp ≡ date y m d)
-  pub value_set : (t : Record) (n v : ℕ) → (setOf t n v).number ≡ 0 → (setOf t n v).next ≡ record { typ = t.typ; revision = t.revision; values = set t.values (n - 1) v }
+  pub value_set : (t : Record) (n v : ℕ) → (set_of t n v).number ≡ 0 → (set_of t n v).next ≡ record { typ = t.typ; revision = t.revision; values = set t.values (n - 1) v }
   pub value_read : (t : Record) (n : ℕ) → (value_of t n).number ≡ 0 → (value_of t n).value ≡ get_or t.values (n - 1) 0
   -- "A ticket record that fits its fields, once a write of it has been taken, is read again as it was, given a buffer that holds its product."
   pub record_again : (c : List ℕ) (j t r : ℕ) (vs : List ℕ) (room : ℕ) → Bytes c → (answer c (write_all j t r vs)).number ≡ 0 → length (product c j) ≤ room

@@ -24,7 +24,7 @@ use Rattle.ticket.specs.declared.kinds.Form.TheVariants.{Ticket, Other}
 use Rattle.ticket.specs.declared.Slot.TheVariants.{At, Refused}
 use Rattle.ticket.specs.Kind.{row_of, form_in, row_by, count_of, listed, field_rule, set_rules}
 use Rattle.ticket.specs.Checks.{slot_in}
-use Rattle.ticket.specs.Ticket.{layout_of, record_rules, record_of, changed, with, set_number, value_number, next_of, setOf, value_if, value_of}
+use Rattle.ticket.specs.Ticket.{layout_of, record_rules, record_of, changed, with, set_number, value_number, next_of, set_of, value_if, value_of}
 use Rattle.ticket.specs.Memory.{own, held_changed}
 use Rattle.fields.proofs.Kept.{held-set}
 use Rattle.ticket.proofs.Listed.{row_facts, row_is}
@@ -68,10 +68,10 @@ next-kept zero t n v h = absurd (h refl)
 next-kept (suc k) t n v h = refl
 
 -- a refused step gives back the record that it took
-pub refused_keeps : (t : Record) (n v : ℕ) → (setOf t n v).number ≢ 0 → (setOf t n v).next ≡ t
+pub refused_keeps : (t : Record) (n v : ℕ) → (set_of t n v).number ≢ 0 → (set_of t n v).next ≡ t
 refused_keeps t n v h = next-kept (set_number t n v) t n v h
 
-pub taken_next : (t : Record) (n v : ℕ) → (setOf t n v).number ≡ 0 → (setOf t n v).next ≡ with t n v
+pub taken_next : (t : Record) (n v : ℕ) → (set_of t n v).number ≡ 0 → (set_of t n v).next ≡ with t n v
 taken_next t n v e = rw e
 
 -- a field that is there gives its value
@@ -97,11 +97,11 @@ module _ (t : Record) (n v : ℕ) where
   abbrev stepped : Layout → Changed
   stepped k = steps k (first (rule 22 (listed k) ∷ set_rules k n v))
 
-  set-by : {f : Form} → form_in t.typ t.revision ≡ f → stepped (row_by f).layout ≡ held_changed (setOf (own t) n v)
+  set-by : {f : Form} → form_in t.typ t.revision ≡ f → stepped (row_by f).layout ≡ held_changed (set_of (own t) n v)
   unfolding set_number
   set-by e = sym (ap (λ (f : Form). stepped (row_by f).layout) e)
 
-  pub set_other : form_in t.typ t.revision ≡ Other → changed 22 (record_of t.typ t.revision (replicate 25 0)) ≡ held_changed (setOf (own t) n v)
+  pub set_other : form_in t.typ t.revision ≡ Other → changed 22 (record_of t.typ t.revision (replicate 25 0)) ≡ held_changed (set_of (own t) n v)
   unfolding first
   set_other e = set-by e
 
@@ -109,17 +109,17 @@ module _ (t : Record) (n v : ℕ) where
     abbrev mine : List ℕ
     mine = take (count_of (row_of k).layout) t.values
 
-    set_is : (m : ℕ) → m ≡ first (set_rules (row_of k).layout n v) → steps (row_of k).layout m ≡ held_changed (setOf (own t) n v)
+    set_is : (m : ℕ) → m ≡ first (set_rules (row_of k).layout n v) → steps (row_of k).layout m ≡ held_changed (set_of (own t) n v)
     set_is m e = ap (steps (row_of k).layout) (e ∙ sym (listed-first k (set_rules (row_of k).layout n v))) ∙ set-by form
 
     pub set-refused : {m : ℕ} → slot_in (row_of k).layout n v ≡ Refused m
-        → changed m (record_of t.typ t.revision (held mine)) ≡ held_changed (setOf (own t) n v)
+        → changed m (record_of t.typ t.revision (held mine)) ≡ held_changed (set_of (own t) n v)
     set-refused {m} e =
         let s = slot-refused (row_of k).layout n v e in
         ap (λ (r : Record). held_changed (changed m r)) (sym (next-kept m (record_of t.typ t.revision mine) n v s.1)) ∙ set_is m s.0
 
     pub set-done : {p : Span} → length t.values ≡ 25 → slot_in (row_of k).layout n v ≡ At p
-        → changed 0 (record_of t.typ t.revision (set (held mine) (n - 1) v)) ≡ held_changed (setOf (own t) n v)
+        → changed 0 (record_of t.typ t.revision (set (held mine) (n - 1) v)) ≡ held_changed (set_of (own t) n v)
     set-done {p} len e =
         let s = slot_at (row_of k).layout n v e in
         let f = row_facts k in

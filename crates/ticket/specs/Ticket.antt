@@ -51,8 +51,8 @@ abbrev pub next_of : ℕ → Record → ℕ → ℕ → Record
 next_of zero t n v = with t n v
 next_of (suc k) t n v = t
 
-abbrev pub setOf : Record → ℕ → ℕ → Changed
-setOf t n v = changed (set_number t n v) (next_of (set_number t n v) t n v)
+abbrev pub set_of : Record → ℕ → ℕ → Changed
+set_of t n v = changed (set_number t n v) (next_of (set_number t n v) t n v)
 
 -- the value of a field; refused, 0
 abbrev pub value_if : ℕ → ℕ → Value

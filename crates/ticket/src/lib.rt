@@ -6,7 +6,7 @@ ghost use Rattle.rules.specs.First.{holds};
 ghost use Rattle.fields.specs.Padded.{most, held};
 ghost use Rattle.ticket.specs.Kind.{row_of, field_rule, end_minutes};
 ghost use Rattle.ticket.specs.Checks.{extent_in, slot_in};
-ghost use Rattle.ticket.specs.Ticket.{setOf, value_of};
+ghost use Rattle.ticket.specs.Ticket.{set_of, value_of};
 ghost use Rattle.ticket.specs.Memory.{own, held_changed};
 
 use fields::{MOST_BYTES, MOST_VALUES, Span};
@@ -144,7 +144,7 @@ fn trimmed(values: [u64; MOST_VALUES], n: usize) -> [u64; MOST_VALUES]
 impl Record {
     // The record with the field's value; or 25 or 26, and the record as it was; or 22, for a record of no listed kind, which has no values.
     pub fn set(self, field: usize, value: u64) -> Changed
-        ensures { result ≡ held_changed (setOf (own self) field value) }
+        ensures { result ≡ held_changed (set_of (own self) field value) }
     {
         let typ = self.typ;
         let revision = self.revision;

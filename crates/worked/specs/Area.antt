@@ -2,7 +2,7 @@
 -- the revisions do differently; each over the definitions that the contracts cite. Assumes nothing.
 use Rattle.std.specs.Prelude.{◌≡◌, List, [], ◌∷◌, ◌++◌, ℕ, ◌-◌, length, drop, replicate}
 use Rattle.bits.specs.Bits.{field}
-use Rattle.ticket.specs.Ticket.{record_of, encode_of, encoded, setOf, changed}
+use Rattle.ticket.specs.Ticket.{record_of, encode_of, encoded, set_of, changed}
 use Rattle.ticket.specs.declared.Record.{Record}
 use Rattle.image.specs.Image.{product}
 use Rattle.image.specs.Verdict.{verdict}
@@ -113,7 +113,7 @@ pub record AreaTicket (s : Sample) : Type 0 where
   pub record_again : read_ticket (next (blank s) (write_all 1 22 s.revision (area_values s 600))) 1 32 ≡ area_ticket s 8 600 144600
   -- its record apart from an image: encoded, and ExpiryTime set in it
   pub record_encoded : encode_of (area_record s 600) ≡ encoded 0 (drop 2 (area_sector 0x20 s.revision at600 s.own))
-  pub record_set : setOf (area_record s 600) 7 1439 ≡ changed 0 (area_record s 1439)
+  pub record_set : set_of (area_record s 600) 7 1439 ≡ changed 0 (area_record s 1439)
   -- a record with values too wide is 26; one of another kind is 22 before that
   pub too_wide : answer (area s) (write_all 1 22 s.revision (wide s.count)) ≡ says 26 1
   pub other_kind : answer (area s) (write_all 1 23 2 (wide 22)) ≡ says 22 1
@@ -143,6 +143,6 @@ pub record Area : Type 0 where
   pub unlisted : (read_ticket (area_card 0x20 4 at600 third) 1 32 ≡ refused_ticket 22) × (answer (area_card 0x20 4 at600 third) (write 1 7 600) ≡ says 22 1)
       × (answer (area_card 0x20 4 at600 third) (write_all 1 22 4 (area_values third 600)) ≡ says 22 1)
   pub unlisted_record : (encode_of (record_of 22 4 (area_values third 600)) ≡ encoded 22 [])
-      × (setOf (record_of 22 4 (area_values third 600)) 7 1439 ≡ changed 22 (record_of 22 4 (area_values third 600)))
+      × (set_of (record_of 22 4 (area_values third 600)) 7 1439 ≡ changed 22 (record_of 22 4 (area_values third 600)))
   -- the same bytes under TYP 23: its ExpiryTime is the 1,324
   pub as_typ_23 : (read_ticket (one_ticket 0xE1 100 (area_sector 0x20 2 at600 (second.own ++ second.after))) 1 32).end ≡ 145324

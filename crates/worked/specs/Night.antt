@@ -2,7 +2,7 @@
 -- the contracts cite. Assumes nothing.
 use Rattle.std.specs.Prelude.{◌≡◌, List, [], ◌∷◌, ℕ}
 use Rattle.rules.specs.Answer.{says}
-use Rattle.ticket.specs.Ticket.{record_of, encode_of, encoded, setOf, changed}
+use Rattle.ticket.specs.Ticket.{record_of, encode_of, encoded, set_of, changed}
 use Rattle.ticket.specs.declared.Record.{Record}
 use Rattle.reads.specs.Ticket.{read_ticket}
 use Rattle.reads.specs.declared.TicketRead.{TicketRead}
@@ -39,7 +39,7 @@ pub record Night : Type 0 where
   pub midnight_written : (answer midnight (write_all 1 23 2 (night_values 2047 0)) ≡ says 0 0) × (read_ticket (next midnight (write_all 1 23 2 (night_values 2047 0))) 1 32 ≡ night_ticket 2047 0 3487)
   -- both encoded, and set in a record apart from an image
   pub records_encoded : (encode_of (night_record 2047) ≡ encoded 0 (ticket_bytes 27 9 (0x07 ∷ 0xFF ∷ []))) × (encode_of (night_record 1440) ≡ encoded 0 (ticket_bytes 27 9 (0x05 ∷ 0xA0 ∷ [])))
-  pub records_set : (setOf (night_record 0) 9 2047 ≡ changed 0 (night_record 2047)) × (setOf (night_record 0) 9 1440 ≡ changed 0 (night_record 1440))
+  pub records_set : (set_of (night_record 0) 9 2047 ≡ changed 0 (night_record 2047)) × (set_of (night_record 0) 9 1440 ≡ changed 0 (night_record 1440))
   -- 2,048 is too wide: each of the four gives 26
   pub too_wide : (answer latest (write 1 9 2048) ≡ says 26 1) × (answer midnight (write_all 1 23 2 (night_values 2048 0)) ≡ says 26 1)
-      × ((encode_of (night_record 2048)).number ≡ 26) × ((setOf (night_record 0) 9 2048).number ≡ 26)
+      × ((encode_of (night_record 2048)).number ≡ 26) × ((set_of (night_record 0) 9 2048).number ≡ 26)
