@@ -15,7 +15,7 @@
    tasks at once, as long as none writes what another one uses. From outside it needs memcpy and memset, and nothing else.
    card_date_of and card_stamp_of have no constant data either: a program that takes only these gets no constants with them.
 
-   Link with the static library that `rt staticlib capi` writes. It is for x86-64: structs are laid out, passed and returned as the System V
+   Link with the static library that tests/c/library writes. It is for x86-64, level v2: structs are laid out, passed and returned as the System V
    interface has C do it. This header is C from C89 on, given a stdint.h, and C++. */
 /* Bytes of stack that a call takes at most, its return address included, as tests/stack measures them on the smallest, the largest and
    the worst cards:
