@@ -137,7 +137,7 @@ pub extern "C" fn card_record_set(
     field: usize,
     value: u64,
 ) -> Changed
-    ensures { result ≡ held_changed (tickets.setOf (own (record { typ = typ; revision = revision; values = values.now })) field value) }
+    ensures { result ≡ held_changed (tickets.set_of (own (record { typ = typ; revision = revision; values = values.now })) field value) }
 {
     capi::card_record_set(typ, revision, values, field, value)
 }
