@@ -36,6 +36,7 @@ pub fn day(stamp: u64) -> u64
 }
 
 // The calendar date of a stamp.
+#[tactic(auto, using(crate::proofs::Stamps::refused, crate::proofs::Stamps::taken))]
 pub fn date(stamp: u64) -> Dated
     ensures { result ≡ date_of stamp }
 {

@@ -4,9 +4,6 @@ use native.Mathlib.Omega.{arith}
 use Rattle.dates.proofs.Stamps.{day-to, taken, refused}
 use Rattle.dates.proofs.date.Goals as goal
 
-pub returns-then-stamp-gt16383 : goal.returns-then-stamp-gt16383
-returns-then-stamp-gt16383 c = sym (refused c.args.stamp (omega arith))
-
 pub on_day-d-requires : goal.on_day-d-requires
 on_day-d-requires c = omega (arith, day-to c.args.stamp (omega arith), c.day.ensures)
 
