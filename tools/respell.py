@@ -10,10 +10,11 @@ Types and modules, the names of ITSO's fields (SECR, IIN, ShellLength, S, B, e#)
 import collections
 import os
 import re
+import subprocess
 import sys
 
 TABLE = os.path.join(os.path.dirname(os.path.realpath(__file__)), "respelt.tsv")
-KIT = os.environ.get("RATTLE_KIT", "/opt/rattle")
+KIT = os.path.dirname(subprocess.run(["rt", "doc"], stdout=subprocess.PIPE, text=True, check=True).stdout.strip())
 TOKEN = re.compile(r"[^\s(){}\[\],;.:\"`@]+")
 # names of the library's operations and words, after which a dash stays
 LIBRARY = set("""add sub mul div mod pow lt le eq min max succ suc zero length take drop append set get get_or replicate map sum concat reverse
