@@ -9,6 +9,7 @@ use lib.Pow.{pow_pos}
 use lib.ListN.{length}
 use Rattle.bits.specs.Bits.{field, store}
 use Rattle.bits.proofs.Laws.{field_about, field_below, field_lt, store_wider}
+use Rattle.bits.proofs.put_bytes.Goals.{After-low-2}
 use Rattle.bits.proofs.put_bytes.Goals as goal
 
 -- the number put together from its parts, of which none wraps
@@ -35,16 +36,16 @@ made l first w v n old m r en hw hl eo em er =
     (rw (er, em, eo) (field_about l (8 * (first / 8)) (first % 8) w c v first (8 * n) (omega arith) (omega arith) hl))
     (field_below (store l first w v) (8 * (first / 8)) (8 * n) 64 (omega arith))
 
-abbrev width_of : goal.After-low-2 → ℕ
+abbrev width_of : After-low-2 → ℕ
 width_of c = c.args.width
 
-abbrev bytes_of : goal.After-low-2 → ℕ
+abbrev bytes_of : After-low-2 → ℕ
 bytes_of c = (c.args.first % 8 + width_of c + 7) / 8
 
-abbrev spare_of : goal.After-low-2 → ℕ
+abbrev spare_of : After-low-2 → ℕ
 spare_of c = 8 * bytes_of c - (c.args.first % 8 + width_of c)
 
-whole : (c : goal.After-low-2)
+whole : (c : After-low-2)
     → Joined (c.load-old.result / 2 ^ (width_of c + spare_of c) * 2 ^ width_of c) c.low.result (spare_of c)
     c.low-2.result
     (field (store c.args.s.now c.args.first (width_of c)
@@ -69,11 +70,11 @@ overflow_add-x-2 c = record { fits = (whole c).all }
 pub save-requires : goal.save-requires
 save-requires c =
     let a = c.args in
-    (rw (whole c.before).is (field_lt (store a.s.now a.first a.width a.v) (8 * (a.first / 8)) (8 * bytes_of c.before)), omega arith)
+    (rw (whole (goal.at.save-requires c).After-low-2).is (field_lt (store a.s.now a.first a.width a.v) (8 * (a.first / 8)) (8 * bytes_of (goal.at.save-requires c).After-low-2)), omega arith)
 
 pub returns : goal.returns
 returns c =
     let a = c.args in
     c.save.ensures
-    ∙ ap (store a.s.now (8 * (a.first / 8)) (8 * bytes_of c.before.before.before.before.before)) (whole c.before.before.before.before.before).is
-    ∙ store_wider a.s.now (8 * (a.first / 8)) (8 * bytes_of c.before.before.before.before.before) a.first a.width a.v (omega arith) (omega arith)
+    ∙ ap (store a.s.now (8 * (a.first / 8)) (8 * bytes_of (goal.at.returns c).After-low-2)) (whole (goal.at.returns c).After-low-2).is
+    ∙ store_wider a.s.now (8 * (a.first / 8)) (8 * bytes_of (goal.at.returns c).After-low-2) a.first a.width a.v (omega arith) (omega arith)

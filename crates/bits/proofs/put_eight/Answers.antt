@@ -9,6 +9,7 @@ use lib.ListN.{length}
 use borrow.Author.Rules.{rules}
 use Rattle.bits.specs.Bits.{field, store}
 use Rattle.bits.proofs.Laws.{field_about, field_lt, store_wider}
+use Rattle.bits.proofs.put_eight.Goals.{After-low-2}
 use Rattle.bits.proofs.put_eight.Goals as goal
 
 -- a number by its digits before the w, those w, and the c after
@@ -42,13 +43,13 @@ made l first w v o k m hw hl eo ek em =
     (rw (em, eo) (field_about l (8 * (first / 8)) (first % 8) w c v first 64 (omega arith) (omega arith) (omega arith)))
     (field_lt (store l first w v) (8 * (first / 8)) 64)
 
-abbrev spare_of : goal.After-low-2 → ℕ
+abbrev spare_of : After-low-2 → ℕ
 spare_of c = let a = c.args in 64 - (a.first % 8 + a.width)
 
-abbrev new-of : goal.After-low-2 → ℕ
+abbrev new-of : After-low-2 → ℕ
 new-of c = let a = c.args in field (store a.s.now a.first a.width a.v) (8 * (a.first / 8)) 64
 
-at : (c : goal.After-low-2) → Changed c.load_eight-old.result c.low.result c.low-2.result (spare_of c) (new-of c)
+at : (c : After-low-2) → Changed c.load_eight-old.result c.low.result c.low-2.result (spare_of c) (new-of c)
 at c =
     let a = c.args in
     made a.s.now a.first a.width a.v c.load_eight-old.result c.low.result c.low-2.result c.requires.1 c.requires.2
@@ -72,5 +73,5 @@ pub returns : goal.returns
 returns c =
     let a = c.args in
     c.save.ensures
-    ∙ ap (store a.s.now (8 * (a.first / 8)) 64) (at c.before.before.before.before).is
+    ∙ ap (store a.s.now (8 * (a.first / 8)) 64) (at (goal.at.returns c).After-low-2).is
     ∙ store_wider a.s.now (8 * (a.first / 8)) 64 a.first a.width a.v (omega arith) (omega arith)

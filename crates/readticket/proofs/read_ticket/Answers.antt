@@ -16,7 +16,7 @@ taking c = judged-taken _ _ _ _ (sym c.take.ensures.value ∙ c.in-Taken.is)
 -- the product's first thirty-two bytes
 within : (c : After-shape_of) → (let g = c.shape_of.result in
     (c.args.entry ≤ 255) × (g.size ≤ 255) × (sector_place g c.args.entry + 32 ≤ length c.args.image.now))
-within c = start-within _ _ _ (let it : Taking c.args.image.now c.args.entry (length c.args.buffer.now) c.in-Taken.sound = judged-taken _ _ _ _ (sym c.take.ensures.value ∙ c.in-Taken.is) in it) c.shape_of.ensures
+within c = start-within _ _ _ (judged-taken _ _ _ _ (sym c.take.ensures.value ∙ c.in-Taken.is)) c.shape_of.ensures
 
 pub shape_of-requires-in-Taken : goal.shape_of-requires-in-Taken
 shape_of-requires-in-Taken c = (taking c).known.opened.shape.in_bounds

@@ -20,12 +20,12 @@ found : (c : In-There) → (Finds c.args.image.now c.args.entry c.in-There.last 
 found c = finds _ _ c.find.ensures c.in-There.is
 
 seen : (c : After-mark_of) → (Sees c.args.image.now c.args.entry c.shape_of-g.result c.in-There.last c.in-There.count c.mark_of.result)
-seen c = sees_of (let it : (Finds c.args.image.now c.args.entry c.in-There.last c.in-There.count) = finds _ _ c.find.ensures c.in-There.is in it) c.shape_of-g.ensures c.mark_of.ensures
+seen c = sees_of (finds _ _ c.find.ensures c.in-There.is) c.shape_of-g.ensures c.mark_of.ensures
 
 -- it is not blocked
 free : (c : Else-mark_of-gt1) → ((product_at c.args.image.now c.args.entry).marked ≤ 1)
 unfolding product_at
-free c = omega (arith, c.if-mark_of-gt1.false, (let it : (Sees c.args.image.now c.args.entry c.shape_of-g.result c.in-There.last c.in-There.count c.mark_of.result) = sees_of (let it : (Finds c.args.image.now c.args.entry c.in-There.last c.in-There.count) = finds _ _ c.find.ensures c.in-There.is in it) c.shape_of-g.ensures c.mark_of.ensures in it).mark-is)
+free c = omega (arith, c.if-mark_of-gt1.false, (sees_of (finds _ _ c.find.ensures c.in-There.is) c.shape_of-g.ensures c.mark_of.ensures).mark-is)
 
 pub shape_of-g-requires-in-There : goal.shape_of-g-requires-in-There
 shape_of-g-requires-in-There c = (found c).in_bounds

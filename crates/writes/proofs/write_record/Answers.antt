@@ -18,12 +18,12 @@ found : (c : In-There) → (Finds c.args.image.now c.args.entry c.in-There.last 
 found c = finds _ _ c.find.ensures c.in-There.is
 
 seen : (c : After-mark_of-marked) → (Sees c.args.image.now c.args.entry c.shape_of-g.result c.in-There.last c.in-There.count c.mark_of-marked.result)
-seen c = sees_of (let it : (Finds c.args.image.now c.args.entry c.in-There.last c.in-There.count) = finds _ _ c.find.ensures c.in-There.is in it) c.shape_of-g.ensures c.mark_of-marked.ensures
+seen c = sees_of (finds _ _ c.find.ensures c.in-There.is) c.shape_of-g.ensures c.mark_of-marked.ensures
 
 -- it is not blocked, and of the record's kind
 free : (c : Else-marked-gt1) → ((product_at c.args.image.now c.args.entry).marked ≤ 1)
 unfolding product_at
-free c = omega (arith, c.if-marked-gt1.false, (let it : (Sees c.args.image.now c.args.entry c.shape_of-g.result c.in-There.last c.in-There.count c.mark_of-marked.result) = sees_of (let it : (Finds c.args.image.now c.args.entry c.in-There.last c.in-There.count) = finds _ _ c.find.ensures c.in-There.is in it) c.shape_of-g.ensures c.mark_of-marked.ensures in it).mark-is)
+free c = omega (arith, c.if-marked-gt1.false, (sees_of (finds _ _ c.find.ensures c.in-There.is) c.shape_of-g.ensures c.mark_of-marked.ensures).mark-is)
 
 same : (c : Else-not-is_kind) → (same_kind (product_at c.args.image.now c.args.entry) c.args.typ c.args.revision ≡ true)
 same c = sym c.is_kind.ensures ∙ c.if-not-is_kind.false

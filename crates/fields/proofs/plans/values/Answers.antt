@@ -12,10 +12,11 @@ use Rattle.fields.specs.Plans.{places_in, parts_in, end_in}
 use Rattle.fields.proofs.Laws.{length_fields, get_or-fields}
 use Rattle.fields.proofs.Kept.{held_more}
 use Rattle.fields.proofs.Planned.{none, Step, end_after, in-part, value-part, nth-place, next-part, next-end, all-passed}
+use Rattle.fields.proofs.plans.values.Goals.{In-loop-q}
 use Rattle.fields.proofs.plans.values.Goals as goal
 
 -- the part that a turn reads
-here : (c : goal.In-loop-q)
+here : (c : In-loop-q)
     → Step c.loop-q.from c.loop-q.i (places_in c.args.plan)
     (get_or c.args.plan.parts c.loop-q.q none)
     (drop (c.loop-q.q + 1) (parts_in c.args.plan))
@@ -24,7 +25,7 @@ here c =
     next-part c.requires.sound l.from l.i l.q c.loop-q-test.true l.invariant.5
 
 -- it ends within the slice
-ends : (c : goal.In-loop-q)
+ends : (c : In-loop-q)
     → c.loop-q.from + (get_or c.args.plan.parts c.loop-q.q none).1
     ≤ end_in 2 (parts_in c.args.plan)
 ends c =
@@ -42,30 +43,30 @@ pub bounds-parts-q : goal.bounds-parts-q
 bounds-parts-q c = omega (arith, c.requires.sound.room)
 
 pub overflow_add-next : goal.overflow_add-next
-overflow_add-next c = omega (arith, (let it : Step c.loop-q.from c.loop-q.i (places_in c.args.plan) (get_or c.args.plan.parts c.loop-q.q none) (drop (c.loop-q.q + 1) (parts_in c.args.plan)) = let l = c.loop-q in next-part c.requires.sound l.from l.i l.q c.loop-q-test.true l.invariant.5 in it).fits, c.requires.sound.count, c.requires.sound.few)
+overflow_add-next c = omega (arith, (here (goal.at.overflow_add-next c).In-loop-q).fits, c.requires.sound.count, c.requires.sound.few)
 
 pub load-x-requires : goal.load-x-requires
-load-x-requires c = (omega (arith, (let it : Step c.loop-q.from c.loop-q.i (places_in c.args.plan) (get_or c.args.plan.parts c.loop-q.q none) (drop (c.loop-q.q + 1) (parts_in c.args.plan)) = let l = c.loop-q in next-part c.requires.sound l.from l.i l.q c.loop-q-test.true l.invariant.5 in it).bytes), omega (arith, (let it : c.loop-q.from + (get_or c.args.plan.parts c.loop-q.q none).1 ≤ end_in 2 (parts_in c.args.plan) = let l = c.loop-q in let e = next-end c.requires.sound l.from l.q c.loop-q-test.true in omega (arith, end_after (l.from + (get_or c.args.plan.parts l.q none).1) (drop (l.q + 1) (parts_in c.args.plan)), l.invariant.4) in it), c.requires.plan_in_bounds))
+load-x-requires c = (omega (arith, (here (goal.at.load-x-requires c).In-loop-q).bytes), omega (arith, (ends (goal.at.load-x-requires c).In-loop-q), c.requires.plan_in_bounds))
 
 pub overflow_add-from : goal.overflow_add-from
-overflow_add-from c = omega (arith, (let it : c.loop-q.from + (get_or c.args.plan.parts c.loop-q.q none).1 ≤ end_in 2 (parts_in c.args.plan) = let l = c.loop-q in let e = next-end c.requires.sound l.from l.q c.loop-q-test.true in omega (arith, end_after (l.from + (get_or c.args.plan.parts l.q none).1) (drop (l.q + 1) (parts_in c.args.plan)), l.invariant.4) in it), c.requires.plan_in_bounds)
+overflow_add-from c = omega (arith, (ends (goal.at.overflow_add-from c).In-loop-q), c.requires.plan_in_bounds)
 
 pub overflow_mul-end : goal.overflow_mul-end
-overflow_mul-end c = omega (arith, (let it : c.loop-q.from + (get_or c.args.plan.parts c.loop-q.q none).1 ≤ end_in 2 (parts_in c.args.plan) = let l = c.loop-q in let e = next-end c.requires.sound l.from l.q c.loop-q-test.true in omega (arith, end_after (l.from + (get_or c.args.plan.parts l.q none).1) (drop (l.q + 1) (parts_in c.args.plan)), l.invariant.4) in it), c.requires.sound.short)
+overflow_mul-end c = omega (arith, (ends (goal.at.overflow_mul-end c).In-loop-q), c.requires.sound.short)
 
 pub loop-i-init : goal.loop-i-init
 loop-i-init c = let l = c.loop-q in (omega arith, omega arith, l.invariant.2, l.invariant.3)
 
 pub offset_bounds-places-i : goal.offset_bounds-places-i
-offset_bounds-places-i c = omega (arith, (let it : Step c.loop-q.from c.loop-q.i (places_in c.args.plan) (get_or c.args.plan.parts c.loop-q.q none) (drop (c.loop-q.q + 1) (parts_in c.args.plan)) = let l = c.loop-q in next-part c.requires.sound l.from l.i l.q c.loop-q-test.true l.invariant.5 in it).fits, c.requires.sound.count, c.requires.sound.few)
+offset_bounds-places-i c = omega (arith, (here (goal.at.offset_bounds-places-i c).In-loop-q).fits, c.requires.sound.count, c.requires.sound.few)
 
 pub bounds-places-i : goal.bounds-places-i
-bounds-places-i c = omega (arith, (let it : Step c.loop-q.from c.loop-q.i (places_in c.args.plan) (get_or c.args.plan.parts c.loop-q.q none) (drop (c.loop-q.q + 1) (parts_in c.args.plan)) = let l = c.loop-q in next-part c.requires.sound l.from l.i l.q c.loop-q-test.true l.invariant.5 in it).fits, c.requires.sound.count, c.requires.sound.few)
+bounds-places-i c = omega (arith, (here (goal.at.bounds-places-i c).In-loop-q).fits, c.requires.sound.count, c.requires.sound.few)
 
 pub value_in-requires : goal.value_in-requires
 value_in-requires c =
     let h = c.requires.sound in
-    let s = (let it : Step c.loop-q.from c.loop-q.i (places_in c.args.plan) (get_or c.args.plan.parts c.loop-q.q none) (drop (c.loop-q.q + 1) (parts_in c.args.plan)) = let l = c.loop-q in next-part c.requires.sound l.from l.i l.q c.loop-q-test.true l.invariant.5 in it) in
+    let s = here (goal.at.value_in-requires c).In-loop-q in
     let j = c.loop-i.i in
     let n = h.narrow j in
     let b = s.bytes in
@@ -73,18 +74,18 @@ value_in-requires c =
     rw (nth-place h j) (w.1, omega arith, omega arith)
 
 pub offset_bounds-values-i : goal.offset_bounds-values-i
-offset_bounds-values-i c = omega (arith, (let it : Step c.loop-q.from c.loop-q.i (places_in c.args.plan) (get_or c.args.plan.parts c.loop-q.q none) (drop (c.loop-q.q + 1) (parts_in c.args.plan)) = let l = c.loop-q in next-part c.requires.sound l.from l.i l.q c.loop-q-test.true l.invariant.5 in it).fits, c.requires.sound.count, c.requires.sound.few)
+offset_bounds-values-i c = omega (arith, (here (goal.at.offset_bounds-values-i c).In-loop-q).fits, c.requires.sound.count, c.requires.sound.few)
 
 pub bounds-values-i : goal.bounds-values-i
-bounds-values-i c = omega (arith, (let it : Step c.loop-q.from c.loop-q.i (places_in c.args.plan) (get_or c.args.plan.parts c.loop-q.q none) (drop (c.loop-q.q + 1) (parts_in c.args.plan)) = let l = c.loop-q in next-part c.requires.sound l.from l.i l.q c.loop-q-test.true l.invariant.5 in it).fits, c.requires.sound.count, c.requires.sound.few)
+bounds-values-i c = omega (arith, (here (goal.at.bounds-values-i c).In-loop-q).fits, c.requires.sound.count, c.requires.sound.few)
 
 pub overflow_add-i : goal.overflow_add-i
-overflow_add-i c = omega (arith, (let it : Step c.loop-q.from c.loop-q.i (places_in c.args.plan) (get_or c.args.plan.parts c.loop-q.q none) (drop (c.loop-q.q + 1) (parts_in c.args.plan)) = let l = c.loop-q in next-part c.requires.sound l.from l.i l.q c.loop-q-test.true l.invariant.5 in it).fits, c.requires.sound.count, c.requires.sound.few)
+overflow_add-i c = omega (arith, (here (goal.at.overflow_add-i c).In-loop-q).fits, c.requires.sound.count, c.requires.sound.few)
 
 pub loop-i-preserved : goal.loop-i-preserved
 loop-i-preserved c =
     let h = c.requires.sound in
-    let s = (let it : Step c.loop-q.from c.loop-q.i (places_in c.args.plan) (get_or c.args.plan.parts c.loop-q.q none) (drop (c.loop-q.q + 1) (parts_in c.args.plan)) = let l = c.loop-q in next-part c.requires.sound l.from l.i l.q c.loop-q-test.true l.invariant.5 in it) in
+    let s = here (goal.at.loop-i-preserved c).In-loop-q in
     let l = c.loop-i in
     let vs = fields c.args.s.now (places_in c.args.plan) in
     let n = length_fields c.args.s.now (places_in c.args.plan) in
@@ -106,7 +107,7 @@ overflow_add-q c = omega (arith, c.requires.sound.room)
 
 pub loop-q-preserved : goal.loop-q-preserved
 loop-q-preserved c =
-    let s = (let it : Step c.loop-q.from c.loop-q.i (places_in c.args.plan) (get_or c.args.plan.parts c.loop-q.q none) (drop (c.loop-q.q + 1) (parts_in c.args.plan)) = let l = c.loop-q in next-part c.requires.sound l.from l.i l.q c.loop-q-test.true l.invariant.5 in it) in
+    let s = here (goal.at.loop-q-preserved c).In-loop-q in
     let l = c.loop-q in
     let m = c.loop-i in
     let i : m.i ≡ l.i + (get_or c.args.plan.parts l.q none).0 = omega arith in (

@@ -24,7 +24,7 @@ found c = finds _ _ c.find.ensures c.in-There.is
 within : (c : After-entry_at-at) → c.entry_at-at.result + 5 ≤ length c.args.image.now
 within c =
     let s = c.shape_of-g.ensures in
-    let v = (let it : (Finds c.args.image.now c.args.entry c.in-There.field-0 c.in-There.field-1) = finds _ _ c.find.ensures c.in-There.is in it).present.is-product in
+    let v = (finds _ _ c.find.ensures c.in-There.is).present.is-product in
     omega (arith, c.entry_at-at.ensures, entry_in_lem s c.args.entry (v.low, omega (arith, v.high, s.entries-is)))
 
 pub shape_of-g-requires-in-There : goal.shape_of-g-requires-in-There
