@@ -19,11 +19,11 @@
    interface has C do it. This header is C from C89 on, given a stdint.h, and C++. */
 /* Bytes of stack that a call takes at most, its return address included, as tests/stack measures them on the smallest, the largest and
    the worst cards:
-   card_check 352, card_read_shell 624, card_read_directory 368, card_read_table 880, card_read_entry 640, card_read_chain 896,
-   card_read_ticket 800, card_fill 544, card_write_field 384, card_write_record 416, card_mark 368, card_touched 528, card_record_set 1040,
-   card_record_value 264, card_encode_shell 200, card_decode_shell 384, card_encode_entry 56, card_decode_entry 264, card_encode_head 8,
-   card_decode_head 8, card_encode_tail 40, card_decode_tail 8, card_encode_header 8, card_decode_header 8, card_encode_ticket 464,
-   card_decode_ticket 416, card_encode_table 104, card_decode_table 568, card_date_of 8, card_stamp_of 8. */
+   card_check 344, card_read_shell 632, card_read_directory 360, card_read_table 872, card_read_entry 360, card_read_chain 888,
+   card_read_ticket 776, card_fill 568, card_write_field 376, card_write_record 376, card_mark 360, card_touched 488, card_record_set 728,
+   card_record_value 264, card_encode_shell 192, card_decode_shell 208, card_encode_entry 32, card_decode_entry 8, card_encode_head 8,
+   card_decode_head 8, card_encode_tail 40, card_decode_tail 8, card_encode_header 8, card_decode_header 8, card_encode_ticket 360,
+   card_decode_ticket 280, card_encode_table 96, card_decode_table 312, card_date_of 8, card_stamp_of 8. */
 #ifndef CARD_H
 #define CARD_H
 

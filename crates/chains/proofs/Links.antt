@@ -1,4 +1,5 @@
--- What the code's two tests tell of the element x of sector i: whether a walk stops there, and whether it stops broken. Assumes nothing.
+-- What the code's two tests tell of the element x of sector i: whether a walk stops there, and whether it stops broken; and what is told of it so.
+-- Assumes nothing.
 use mathlib.Core.Path.{◌≡◌, refl}
 use mathlib.Core.Logic.{◌≢◌}
 use mathlib.Core.Bool.{Bool, true, false, ◌&&◌, ◌||◌, not, true≢false, false≢true}
@@ -9,8 +10,10 @@ use lib.Dec.{eqb, ltb}
 use borrow.Author.Tests.{eq-eqb, ne_eqb, eqb-true, eqb-false, ltb-true, ltb-false}
 use Rattle.chains.specs.Chain.{Sector, Names, fresh, used, blocked}
 use Rattle.chains.specs.Breaks.{Fault, is_zero, is_above, zero_met, above_met}
-use Rattle.chains.specs.Walk.{end, to, bad, link}
-use Rattle.chains.proofs.Laws.{view, view-end, view-to, view-bad}
+use Rattle.chains.specs.Walk.{Link, end, to, bad, link}
+use Rattle.chains.specs.Ended.{link_told}
+use Rattle.chains.specs.declared.packed.Link.TheVariants.{Next, Last, Broken}
+use Rattle.chains.proofs.Laws.{View, v_end, v_to, v_bad, view, view-end, view-to, view-bad}
 
 abbrev pub stops : ℕ → ℕ → ℕ → Bool
 stops S i x = (eqb x i || eqb x 0) || ltb (S - 3) x
@@ -64,3 +67,29 @@ module _ (S i x : ℕ) (s : Sector S i) where
 
   pub link-to : stops S i x ≡ false → link S i x ≡ to x
   link-to h = view-to s (view S i x) (names S i x h)
+
+-- ---- what is told of an element, and the element
+
+pub told-bad : (l : Link) → Broken ≡ link_told l → (w : Fault) × (l ≡ bad w)
+told-bad (end m) e = absurd (cc)
+told-bad (to x) e = absurd (cc)
+told-bad (bad w) e = (w, refl)
+
+pub told-last : (l : Link) → Last ≡ link_told l → (m : ℕ) × (l ≡ end m)
+told-last (end m) e = (m, refl)
+told-last (to x) e = absurd (cc)
+told-last (bad w) e = absurd (cc)
+
+pub told-next : (l : Link) {x : ℕ} → Next x ≡ link_told l → l ≡ to x
+told-next (end m) e = absurd (cc)
+told-next (to y) {x} e = let q : x ≡ y = cc in rw q refl
+told-next (bad w) e = absurd (cc)
+
+-- the next sector is named by the element
+pub next-named : (S i x : ℕ) {y : ℕ} → Next y ≡ link_told (link S i x) → (y ≡ x) × Names S i y
+next-named S i x {y} = go (view S i x)
+  where
+    go : {l : Link} → View S i x l → Next y ≡ link_told l → (y ≡ x) × Names S i y
+    go (v_end a) e = absurd (cc)
+    go (v_to a) e = let q : y ≡ x = cc in (q, rw q a)
+    go (v_bad b) e = absurd (cc)

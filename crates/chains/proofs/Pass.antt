@@ -122,7 +122,7 @@ pub record Unsound (p : ℕ → Bool) (f : ℕ → ℕ) (S k : ℕ) : Type 0 whe
   pub clean : (j : ℕ) → j < k → 1 ≤ j → shares_at p f S j ≡ true → ⊥
   pub shares : broken_at p f S k ≡ false → shares_at p f S k ≡ true
 
-pub pass-start : (p : ℕ → Bool) (f : ℕ → ℕ) (S : ℕ) → Pass p f S 1 (S - 3) (set (replicate 256 0) 0 1)
+pub pass-start : (p : ℕ → Bool) (f : ℕ → ℕ) (S : ℕ) → Pass p f S 1 (S - 3) (replicate 256 0)
 pass-start p f S = record { allowed = allowed_all p f S; ends = seen_none (last_at p f S); sound = λ j l h e. omega arith; room = refl }
 
 module _ {P : ℕ → Type 0} {p : ℕ → Bool} {S : ℕ} (t : Tested P p S) (f : ℕ → ℕ) {k n : ℕ} {seen : List ℕ} (w : Pass p f S k n seen) where
@@ -142,21 +142,21 @@ module _ {P : ℕ → Type 0} {p : ℕ → Bool} {S : ℕ} (t : Tested P p S) (f
       }
 
   module _ (most : S ≤ 255) (v : p k ≡ true) {r : ℕ} (e : r ≡ last_left n (walk f S k n)) where
-    -- it has no chain within what is allowed, or one that ends where another does
-    pub pass-stop : get_or seen (last_told r) 0 ≢ 0 → Unsound p f S k
-    pass-stop h = record { clean = λ j l b. pass-clean j l; shares = shares }
-      where
-        shares : broken_at p f S k ≡ false → shares_at p f S k ≡ true
-        shares b = elim (ℕ_discrete r 0) [
-          | yes z ↦ pass-stops t f most w.allowed v e pass-clean z b
-          | no z ↦ let g = pass-goes t f most w.allowed v e z in
-              meets-shares t f k (seen-hit (last_at p f S) k w.allowed.low seen w.ends g.last_some (rw g.last-is at h))
-        ]
+    -- it has no chain within what is allowed
+    pub pass-none : r ≡ 0 → Unsound p f S k
+    pass-none z = record { clean = λ j l b. pass-clean j l; shares = pass-stops t f most w.allowed v e pass-clean z }
+
+    -- it has one that ends where another does
+    pub pass-met : r ≢ 0 → get_or seen (last_told r) 0 ≢ 0 → Unsound p f S k
+    pass-met z h = record {
+      clean = λ j l b. pass-clean j l;
+      shares = λ b. let g = pass-goes t f most w.allowed v e z in meets-shares t f k (seen-hit (last_at p f S) k w.allowed.low seen w.ends g.last_some (rw g.last-is at h));
+    }
 
     -- it has one that ends where no other does
-    pub pass-take : get_or seen (last_told r) 0 ≡ 0 → Passes p f S k n r × Pass p f S (k + 1) (left_told r) (set seen (last_told r) 1)
-    pass-take h =
-        let g = pass-goes t f most w.allowed v e (λ z. w.ends.nought (rw z at h)) in (
+    pub pass-take : r ≢ 0 → get_or seen (last_told r) 0 ≡ 0 → Passes p f S k n r × Pass p f S (k + 1) (left_told r) (set seen (last_told r) 1)
+    pass-take z h =
+        let g = pass-goes t f most w.allowed v e z in (
           g,
           record {
             allowed = g.left;

@@ -1,7 +1,6 @@
--- One step of a walk, by comparing the element. Assumes nothing.
+-- One step of a walk, by what is told of the element. Assumes nothing.
 use mathlib.Core.Path.{◌≡◌, refl, ap, ◌∙◌}
 use mathlib.Core.Logic.{◌≢◌}
-use mathlib.Core.Bool.{true, false}
 use mathlib.Core.List.{List, [], ◌∷◌}
 use Prim.Native.Nat.{ℕ, zero, suc, ◌+◌, ◌-◌, ◌*◌}
 use native.Mathlib.Omega.{arith}
@@ -10,10 +9,12 @@ use lib.ListN.{get_or, set}
 use borrow.Author.Tests.{eq-eqb, ne_eqb}
 use Rattle.chains.specs.Chain.{Sector, Names, Leads}
 use Rattle.chains.specs.Walk.{Link, end, to, bad, link, member, past, Walk, found, broken, after, on_link, walk_on, walk}
+use Rattle.chains.specs.Ended.{link_told}
+use Rattle.chains.specs.declared.packed.Link.TheVariants.{Next, Last, Broken}
 use Rattle.chains.specs.Packed.{last_left}
 use Rattle.chains.specs.Owners.{stop, again, by_link, follow}
 use Rattle.chains.proofs.Laws.{View, v_end, v_to, v_bad, view, walk-on-finds, walk-on-leads, no_return, walk-finds, walk-leads, walk-short, last_cons}
-use Rattle.chains.proofs.Links.{stops, fails, link-bad, link-end, link-to}
+use Rattle.chains.proofs.Links.{told-bad, told-last, told-next}
 
 -- the walk's number, by what the first element says; `rest x` is the number from sector x on with one fewer allowed
 abbrev on_last : ℕ → ℕ → Link → (ℕ → ℕ) → ℕ
@@ -62,14 +63,14 @@ module _ (f : ℕ → ℕ) (S i : ℕ) where
     by q = q ∙ ap (λ (y : ℕ). on_last i n (link S i y) (λ z. last_left (n - 1) (walk f S z (n - 1)))) e ∙ last-link s n some
 
     -- the element is bad, ends the chain, or names the next sector
-    pub stop-bad : fails S i x ≡ true → 0 ≡ last_left n (walk f S i n)
-    stop-bad h = by (rw (link-bad S i x s h).1)
+    pub stop-bad : Broken ≡ link_told (link S i x) → 0 ≡ last_left n (walk f S i n)
+    stop-bad h = by (rw (told-bad (link S i x) h).1)
 
-    pub stop-end : stops S i x ≡ true → fails S i x ≡ false → i + 256 * n ≡ last_left n (walk f S i n)
-    stop-end h g = by (rw (link-end S i x s h g).1)
+    pub stop-end : Last ≡ link_told (link S i x) → i + 256 * n ≡ last_left n (walk f S i n)
+    stop-end h = by (rw (told-last (link S i x) h).1)
 
-    pub goes_on : stops S i x ≡ false → {r : ℕ} → r ≡ last_left (n - 1) (walk f S x (n - 1)) → r ≡ last_left n (walk f S i n)
-    goes_on h q = by (q ∙ rw (link-to S i x s h))
+    pub goes_on : {y : ℕ} → Next y ≡ link_told (link S i x) → {r : ℕ} → r ≡ last_left (n - 1) (walk f S y (n - 1)) → r ≡ last_left n (walk f S i n)
+    goes_on h q = by (q ∙ rw (told-next (link S i x) h))
 
 -- the same of the walk that looks at no sector twice
 module _ (f : ℕ → ℕ) (S k n : ℕ) (owner : List ℕ) (i : ℕ) where
@@ -78,7 +79,7 @@ module _ (f : ℕ → ℕ) (S k n : ℕ) (owner : List ℕ) (i : ℕ) where
     unfolding follow
     follow-none e = rw (e, free)
 
-    module _ (x : ℕ) (s : Sector S i) (some : n ≢ 0) (e : x ≡ f i) where
+    module _ (x : ℕ) (some : n ≢ 0) (e : x ≡ f i) where
       unfolded : by_link (link S i x) (n - 1) (set owner i k) (λ y. follow f S k (n - 1) (set owner i k) y) ≡ follow f S k n owner i
       unfolding follow
       unfolded = go n some
@@ -87,14 +88,14 @@ module _ (f : ℕ → ℕ) (S k n : ℕ) (owner : List ℕ) (i : ℕ) where
           go zero h = absurd (h refl)
           go (suc l) h = rw (sub-one, free, e)
 
-      pub follow-bad : fails S i x ≡ true → stop 0 (set owner i k) ≡ follow f S k n owner i
-      follow-bad h = rw (← unfolded, (link-bad S i x s h).1)
+      pub follow-bad : Broken ≡ link_told (link S i x) → stop 0 (set owner i k) ≡ follow f S k n owner i
+      follow-bad h = rw (← unfolded, (told-bad (link S i x) h).1)
 
-      pub follow-end : stops S i x ≡ true → fails S i x ≡ false → stop (n - 1 + 1) (set owner i k) ≡ follow f S k n owner i
-      follow-end h g = rw (← unfolded, (link-end S i x s h g).1, add-one)
+      pub follow-end : Last ≡ link_told (link S i x) → stop (n - 1 + 1) (set owner i k) ≡ follow f S k n owner i
+      follow-end h = rw (← unfolded, (told-last (link S i x) h).1, add-one)
 
-      pub follow-on : stops S i x ≡ false → follow f S k (n - 1) (set owner i k) x ≡ follow f S k n owner i
-      follow-on h = rw (← unfolded, link-to S i x s h)
+      pub follow-on : {y : ℕ} → Next y ≡ link_told (link S i x) → follow f S k (n - 1) (set owner i k) y ≡ follow f S k n owner i
+      follow-on h = rw (← unfolded, told-next (link S i x) h)
 
   module _ (met : get_or owner i 0 ≢ 0) where
     unfolded-met : stop (again k (get_or owner i 0) n) owner ≡ follow f S k n owner i

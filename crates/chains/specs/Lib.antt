@@ -5,5 +5,6 @@ pub mod Walk
 pub mod Packed
 pub mod Products
 pub mod Owners
+pub mod Ended
 pub mod Marks
 pub mod Consulted

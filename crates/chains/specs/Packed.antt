@@ -4,7 +4,7 @@ use Rattle.std.specs.Prelude.{cond, List, ◌≡◌, ℕ, ◌+◌, ◌-◌, ◌*
 use Rattle.bits.specs.Bits.{field}
 use Rattle.chains.specs.Walk.{Walk, found, broken}
 use Rattle.chains.specs.Chain.{last_of}
-use Rattle.chains.specs.declared.Table.{Table}
+use Rattle.chains.specs.declared.Place.{Place}
 
 -- the bit where the element of sector i stands, of p bits, in a table that starts at bit first: SCT(1) is the first
 abbrev pub element_at : ℕ → ℕ → ℕ → ℕ
@@ -15,7 +15,7 @@ abbrev pub element_in : List ℕ → ℕ → ℕ → ℕ → ℕ
 element_in l first p i = field l (element_at first p i) p
 
 -- the table lies within l, from a whole byte on that is not one of the first two
-pub record Inside (l : List ℕ) (t : Table) : Type 0 where
+pub record Inside (l : List ℕ) (t : Place) : Type 0 where
   pub least : 4 ≤ t.sectors
   pub most : t.sectors ≤ 255
   pub narrow : t.psi ≤ 8
@@ -23,9 +23,6 @@ pub record Inside (l : List ℕ) (t : Table) : Type 0 where
   pub far : 16 ≤ t.first
   pub whole : t.first % 8 ≡ 0
   pub within : t.first + t.psi * (t.sectors - 3) ≤ 8 * length l
-
-abbrev pub tabled : ℕ → ℕ → ℕ → Table
-tabled first psi sectors = record { first = first; psi = psi; sectors = sectors }
 
 -- the last sector, and 256 for each of n allowed sectors that was still allowed where it was met, the last included; 0 where the chain is broken
 abbrev pub last_left : ℕ → Walk → ℕ

@@ -2,13 +2,11 @@
 use mathlib.Core.Path.{◌≡◌, refl, sym, ap, ◌∙◌}
 use mathlib.Core.Bool.{Bool}
 use mathlib.Core.List.{List, [], ◌∷◌, ◌++◌}
-use Prim.Native.Nat.{ℕ, zero, suc, ◌+◌, ◌-◌, ◌≤◌}
+use Prim.Native.Nat.{ℕ, zero, suc, ◌+◌, ◌-◌}
 use native.Mathlib.Omega.{arith}
 use lib.ListN.{length, get_or, take, drop, replicate}
 use lib.Seq.{get_or-drop}
-use Rattle.text.specs.declared.Number.{Number}
-use Rattle.text.specs.Numbers.{number_of}
-use Rattle.text.specs.Words.{words, word_end, after_blank, first_of, numbers_of, count_of, fronted}
+use Rattle.text.specs.Words.{words, word_end, first_of, numbers_of, count_of, fronted}
 use Rattle.text.proofs.Split.{cut_at}
 use Rattle.console.specs.declared.commands.Command.{Command}
 use Rattle.console.specs.Commands.{command_of, command_of_line}
@@ -27,16 +25,11 @@ at : (ns d : List ℕ) (k i : ℕ) → d ≡ fronted ns (replicate k 0) → get_
 at ns d k i e = rw e (padded ns (drop (length ns) (replicate k 0)) (λ j. get_or-drop (length ns) (replicate k 0) j 0 ∙ zeros k (length ns + j)) i)
 
 pub of_line : (all : Bool) (l d : List ℕ) (e n : ℕ) (r : Command) → e ≡ word_end l 0 → n ≡ count_of 302 l → d ≡ fronted (numbers_of 302 l) (replicate 302 0)
-    → r ≡ command_of all (take (e - 0) l) n (get_or d 0 0) (get_or d 1 0) (get_or d 2 0) → r ≡ command_of_line all l
+    → r ≡ command_of all (take e l) n (get_or d 0 0) (get_or d 1 0) (get_or d 2 0) → r ≡ command_of_line all l
 unfolding command_of_line
 of_line all l d e n r q p u h =
     let ns = numbers_of 302 l in
-    let w : take (e - 0) l ≡ first_of (words l) = rw q (sym (ap first_of (cut_at l 0))) in
+    let z : e ≡ e - 0 = omega arith in
+    let v : take (e - 0) l ≡ first_of (words l) = rw q (sym (ap first_of (cut_at l 0))) in
+    let w : take e l ≡ first_of (words l) = ap (λ (j : ℕ). take j l) z ∙ v in
     h ∙ (rw (w, p, at ns d 302 0 u, at ns d 302 1 u, at ns d 302 2 u))
-
--- the first word of a line as a number, and where the next begins
-pub number-first : (l : List ℕ) (e p : ℕ) (n : Number) → e ≡ word_end l 0 → n ≡ number_of (take (e - 0) l) → p ≡ after_blank l e → p ≤ length l
-    → (n ≡ number_of (take (word_end l 0) l)) × (p ≡ after_blank l (word_end l 0)) × (p ≤ length l)
-number-first l e p n q m k h =
-    let z : e - 0 ≡ word_end l 0 = omega arith in
-    (m ∙ ap (λ (i : ℕ). number_of (take i l)) z, k ∙ ap (after_blank l) q, h)

@@ -1,11 +1,10 @@
 -- The commands of the desk and of the test program: which one a line is, and with which numbers. Assumes nothing.
-use Rattle.std.specs.Prelude.{ℕ, zero, suc, ◌+◌, ◌-◌, ◌≡◌, Bool, cond, ◌&&◌, List, [], ◌∷◌, ◌++◌, get_or, eqb, leb}
+use Rattle.std.specs.Prelude.{ℕ, zero, suc, ◌+◌, ◌-◌, ◌≡◌, Bool, cond, ◌&&◌, List, [], ◌∷◌, ◌++◌, Option, Some, None, unwrap_or, get_or, eqb, leb}
 use Prim.Native.String.{String}
 use Rattle.fields.specs.Padded.{most, most_bytes}
 use Rattle.text.specs.Words.{words, first_of, same, takes, bytes_of, numbers_of, count_of}
 use Rattle.ticket.specs.Kind.{row_of, form_in, kind_of, rest_of, count_of as field_count}
-use Rattle.ticket.specs.declared.kinds.Form.{Form}
-use Rattle.ticket.specs.declared.kinds.Form.TheVariants.{Ticket, Other}
+use Rattle.ticket.specs.declared.kinds.Kind.{Kind}
 use Rattle.console.specs.declared.commands.Command.{Command}
 use Rattle.console.specs.declared.commands.Command.TheVariants.{Unknown, Look, Lend, Change, Reckon, Encode, Make, Decode, File}
 use Rattle.console.specs.declared.commands.Look.TheVariants as look
@@ -24,17 +23,17 @@ unfoldable pub values_of : ℕ → ℕ → ℕ
 values_of t r = field_count (kind_of t r).layout
 
 -- whether n numbers are f others and a record's values: as many as its kind has, and any up to twenty-five where it is not listed
-abbrev pub suits_as : Form → ℕ → ℕ → Bool
-suits_as (Ticket k) f n = eqb n (f + field_count (row_of k).layout)
-suits_as Other f n = leb f n && leb n (f + most)
+abbrev pub suits_as : Option Kind → ℕ → ℕ → Bool
+suits_as (Some k) f n = eqb n (f + field_count (row_of k).layout)
+suits_as None f n = leb f n && leb n (f + most)
 
 unfoldable pub suits : ℕ → ℕ → ℕ → ℕ → Bool
 suits t r f n = suits_as (form_in t r) f n
 
 -- whether n bytes are a record's: those from byte 2 of a ticket to the end of its fields, and any up to twenty-seven where it is not listed
-abbrev pub are_bytes_as : Form → ℕ → Bool
-are_bytes_as (Ticket k) n = eqb n (rest_of (row_of k).layout - 2)
-are_bytes_as Other n = leb n most_bytes
+abbrev pub are_bytes_as : Option Kind → ℕ → Bool
+are_bytes_as (Some k) n = eqb n (rest_of (row_of k).layout - 2)
+are_bytes_as None n = leb n most_bytes
 
 unfoldable pub are_bytes : ℕ → ℕ → ℕ → Bool
 are_bytes t r n = are_bytes_as (form_in t r) n
@@ -126,15 +125,13 @@ unfoldable pub command_of_line : Bool → List ℕ → Command
 command_of_line all l =
     command_of all (first_of (words l)) (count_of 302 l) (get_or (numbers_of 302 l) 0 0) (get_or (numbers_of 302 l) 1 0) (get_or (numbers_of 302 l) 2 0)
 
--- the command at a place of a list
-abbrev pub command_at : ℕ → List Listed → ℕ → ℕ → ℕ → ℕ → Command
-command_at i [] n a b c = Unknown
-command_at zero (e ∷ es) n a b c = e.is n a b c
-command_at (suc i) (e ∷ es) n a b c = command_at i es n a b c
+-- r is what is found in the list es, if the command stands there; what the list goes on with is looked at where it does not
+abbrev pub Finds : Option Command → List Listed → List ℕ → ℕ → ℕ → ℕ → ℕ → Type 0
+Finds r es w n a b c = (others : List Listed) → unwrap_or r (command_in others w n a b c) ≡ command_in (es ++ others) w n a b c
 
--- it is r, whatever the numbers are
-abbrev pub OfNone : Command → ℕ → List Listed → Type 0
-OfNone r i es = (n a b c : ℕ) → r ≡ command_at i es n a b c
+-- it is that of the desk's own with the word w, whatever the numbers are
+abbrev pub OfDesk : Command → List ℕ → Type 0
+OfDesk r w = (n a b c : ℕ) → r ≡ command_in desk w n a b c
 
 -- ---- the numbers of a command that has more than three
 

@@ -1,13 +1,20 @@
 -- What the test program's own commands leave: the image, the kept image, and how long they are. Assumes nothing.
-use Rattle.std.specs.Prelude.{ℕ, ◌-◌, min, cond, List, ◌++◌, length, take, drop, replicate, eqb, leb, ltb}
-use Rattle.text.specs.declared.Number.{Number}
-use Rattle.text.specs.declared.Number.TheVariants.{Is, Not}
+use Rattle.std.specs.Prelude.{ℕ, ◌-◌, min, Bool, cond, List, ◌++◌, Option, Some, None, length, take, drop, replicate, eqb, leb, ltb}
 use Rattle.text.specs.Words.{none, fronted, word_end, after_blank}
 use Rattle.text.specs.Numbers.{number_of}
 use Rattle.text.specs.Hex.{bytes_in, hex_count}
-use Rattle.console.specs.declared.State.{State}
+use Rattle.console.specs.declared.Bench.{Bench}
 use Rattle.console.specs.declared.commands.Make.{Make}
 use Rattle.console.specs.declared.commands.Make.TheVariants.{Zeros, Keep, Touched, At}
+
+-- how long the image and the kept image are, and whether the commands are those of a test program
+pub record State : Type 0 where
+  pub image : ℕ
+  pub kept : ℕ
+  pub all : Bool
+
+abbrev pub sizes_of : Bench → State
+sizes_of p = record { image = p.image.size; kept = p.kept.size; all = p.all }
 
 -- the buffer b with the bytes that a word means at its front, as far as both go
 abbrev pub read_into : List ℕ → List ℕ → List ℕ
@@ -18,9 +25,9 @@ unfoldable pub filled_by : List ℕ → List ℕ → List ℕ
 filled_by w b = cond (eqb (hex_count w) (length b)) (read_into w b) b
 
 -- the place that a word names
-abbrev pub place_of : Number → ℕ
-place_of (Is p) = p
-place_of Not = none
+abbrev pub place_of : Option ℕ → ℕ
+place_of (Some p) = p
+place_of None = none
 
 -- the image c with the bytes that the word w means from byte p on, where they lie within it
 unfoldable pub overwritten : ℕ → List ℕ → List ℕ → List ℕ

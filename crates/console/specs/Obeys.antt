@@ -1,16 +1,17 @@
 -- What a command, a line and an input leave: the image, the kept image, how long they are, and the buffer that commands lend. Assumes nothing.
-use Rattle.std.specs.Prelude.{ℕ, suc, ◌-◌, ◌^◌, ◌≡◌, ◌⊎◌, Bool, true, false, cond, List, ◌++◌, take, drop, replicate}
+use Rattle.std.specs.Prelude.{ℕ, suc, ◌-◌, ◌^◌, ◌≡◌, ◌⊎◌, Bool, true, false, List, ◌++◌, Option, Some, None, take, drop, replicate}
 use Rattle.steps.specs.Steps.{next}
 use Rattle.text.specs.Words.{numbers_of, fronted, word_end, after_blank}
+use Rattle.text.specs.declared.feed.Span.{Span}
 use Rattle.text.specs.declared.feed.Feed.{Feed}
 use Rattle.text.specs.Lines.{at_first, line_of, Turn}
-use Rattle.console.specs.declared.State.{State}
+use Rattle.console.specs.declared.Bench.{Bench}
 use Rattle.console.specs.declared.commands.Command.{Command}
 use Rattle.console.specs.declared.commands.Command.TheVariants.{Unknown, Look, Lend, Change, Reckon, Encode, Make, Decode, File}
 use Rattle.console.specs.Commands.{command_of_line}
 use Rattle.console.specs.Changes.{step_of}
 use Rattle.console.specs.Lends.{Lent}
-use Rattle.console.specs.Makes.{size_in, image_made, kept_made, state_made}
+use Rattle.console.specs.Makes.{State, sizes_of, size_in, image_made, kept_made, state_made}
 
 -- what a program holds: the buffers of the image and of the kept image, each with its image at the front, and their sizes
 pub record Held : Type 0 where
@@ -20,6 +21,9 @@ pub record Held : Type 0 where
 
 abbrev pub held : List ℕ → List ℕ → State → Held
 held b k s = record { image = b; kept = k; sizes = s }
+
+abbrev pub bench_held : Bench → Held
+bench_held p = held p.image.bytes p.kept.bytes (sizes_of p)
 
 -- ---- a command, with the numbers ns of its line and the bytes l after its word
 
@@ -63,8 +67,12 @@ LentByLine l h e d = LentBy (command_for l h) h e d
 -- ---- an input, read into a buffer turn by turn
 
 -- what a turn leaves that left the buffer b: the line that it gives is answered, if it gives one
+abbrev pub after_given : List ℕ → Option Span → Held → Held
+after_given b None h = h
+after_given b (Some l) h = after_line (line_of b l) h
+
 abbrev pub after_turn : List ℕ → Feed → Held → Held
-after_turn b f h = cond f.given (after_line (line_of b f) h) h
+after_turn b f h = after_given b f.line h
 
 -- n turns, none after the input has ended, lead from the buffer b, the turn f and what is held, h, to others
 pub data Turns (b : List ℕ) (f : Feed) (h : Held) : ℕ → List ℕ → Feed → Held → Type 0 where

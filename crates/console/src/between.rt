@@ -1,44 +1,37 @@
 // Which products differ between two images.
-use card::Checked;
-use text::{prints, words};
+use std::fmt;
+use text::prints;
 
-// The most entries that an image has.
+// Room for a flag of each entry: e# is a byte.
 const ENTRIES: usize = 255;
+
+// The entries that are flagged, each after a blank.
+#[derive(Drop)]
+struct Flagged<'a>(&'a [u8]);
+
+impl fmt::Display for Flagged<'_> {
+    fn fmt<W: fmt::Write>(&self, f: &mut fmt::Formatter<W>) -> fmt::Result {
+        for (i, flag) in self.0.iter().enumerate() {
+            if *flag != 0 {
+                write!(f, " {}", i + 1)?;
+            }
+        }
+        Ok(())
+    }
+}
 
 // How many entries an accepted image has, and 0 for any other.
 fn entries(image: &[u8]) -> usize {
-    let Checked::Accepted(g) = card::check(image) else {
-        return 0;
-    };
-    g.entries
+    card::check(image).map_or(0, |shape| shape.entries)
 }
 
 // Answers with the entries that were touched between an image before and one after.
-pub(crate) fn touched(before: &[u8], after: &[u8]) {
-    let mut flags = [0u8; ENTRIES];
-    compared(before, after, &mut flags);
-}
-
-fn compared(before: &[u8], after: &[u8], flags: &mut [u8]) {
-    let n = words::least(entries(before), flags.len());
-    let answer = card::touched(before, after, &mut flags[0..n]);
-    let whole = &flags[..];
-    if answer.number == 0 {
-        named(&whole[0..n]);
-        return;
+pub(crate) fn touched(rt: &impl Print, before: &[u8], after: &[u8]) {
+    let mut space = [0u8; ENTRIES];
+    let n = entries(before).min(ENTRIES);
+    let flags = &mut space[..n];
+    match card::touched(before, after, flags) {
+        Ok(()) => prints::line(rt, format_args!("0 0{}", Flagged(flags))),
+        Err(refusal) => prints::plain(rt, refusal.reason.number(), refusal.entry),
     }
-    prints::plain(answer.number, answer.entry);
-}
-
-// The entries that are flagged.
-fn named(flags: &[u8]) {
-    prints::verdict(0, 0);
-    let mut i = 0;
-    while i < flags.len() {
-        if flags[i] != 0 {
-            prints::also(i as u64 + 1);
-        }
-        i += 1;
-    }
-    prints::end();
 }

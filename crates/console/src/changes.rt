@@ -3,27 +3,18 @@ ghost use Rattle.std.specs.Prelude.{◌≡◌};
 ghost use Rattle.steps.specs.Steps.{next};
 ghost use Rattle.console.specs.Changes.{step_of};
 
-use crate::commands::Change;
-use crate::values;
-use card::Answer;
-use text::prints;
-use text::words::MOST;
+use crate::answers::plain;
+use crate::commands::{Change, Numbers};
 
-// `list` holds the numbers of the line.
-pub(crate) fn change(asked: Change, list: &[u64; MOST], image: &mut [u8])
-    ensures { image.new ≡ next image.old (step_of asked list.now) }
+pub(crate) fn change(rt: &impl Print, asked: Change, numbers: &Numbers, image: &mut [u8])
+    ensures { image.new ≡ next image.old (step_of asked numbers.now.list) }
 {
     match asked {
-        Change::Field(j, field, value) => told(card::write_field(image, j, field, value)),
+        Change::Field(j, field, value) => plain(rt, card::write_field(image, j, field, value)),
         Change::Record(j, typ, revision) => {
-            let all = values::from(list, 3);
-            told(card::write_record(image, j, typ, revision, &all))
+            let all = numbers.part(3);
+            plain(rt, card::write_record(image, j, typ, revision, &all))
         }
-        Change::Mark(j, mark) => told(card::mark(image, j, mark)),
+        Change::Mark(j, mark) => plain(rt, card::mark(image, j, mark)),
     }
-}
-
-// What a step answered.
-fn told(r: Answer) {
-    prints::plain(r.number, r.entry);
 }

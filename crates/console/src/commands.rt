@@ -1,14 +1,18 @@
 // The commands: which one a line is, and with which numbers.
-ghost use Rattle.std.specs.Prelude.{◌≡◌, cond, replicate};
-ghost use Rattle.text.specs.Words.{numbers_of, count_of, fronted};
+ghost use Rattle.std.specs.Prelude.{◌+◌, ◌≤◌, ◌≡◌, cond, replicate, unwrap_or, slice_index, IfSome};
+ghost use Rattle.fields.specs.Padded.{most};
+ghost use Rattle.text.specs.Words.{numbers_of, count_of, fronted, none};
 ghost use Rattle.console.specs.declared.commands.Command.TheVariants.{Unknown};
-ghost use Rattle.console.specs.Commands.{command_at, OfNone, common as Commands·common, trial as Commands·trial, desk as Commands·desk, command_of, command_of_line};
+ghost use Rattle.console.specs.Commands.{command_in, common as Commands·common, trial as Commands·trial, Finds, OfDesk, command_of, command_of_line, numbers_from};
 
 use crate::values;
+use card::Record;
+use std::str;
 use text::words;
 use text::words::MOST;
 
-// What a line asks for. The numbers that a command has beyond three stand in the list beside it.
+// What a line asks for. The numbers that a command has beyond three stand in the line's `Numbers`. These enums are commands, and each is matched once.
+// `Unknown` is one of them and no `None`: specs/Commands has it for a line that is no other command, and specs/Obeys says that it leaves all as it was.
 #[derive(Drop)]
 pub enum Command {
     Look(Look),
@@ -103,55 +107,72 @@ pub enum File {
     Touched,
 }
 
-// A line as it was read: its command, how many numbers stand after the first word (`words::NONE` where not all words there are numbers), and these, zeros after them.
+// The numbers of a line: how many stand after its first word, if all words there are numbers, and these, zeros after them.
 #[derive(Drop)]
-pub struct Read {
-    pub command: Command,
-    pub count: usize,
+pub struct Numbers {
+    pub count: Option<usize>,
     pub list: [u64; MOST],
 }
 
-// Reads a line of the test program (`all`) or of the desk.
+impl Numbers {
+    // So many of them, from place `first` on; zeros where the line has no more.
+    pub(crate) fn part<const N: usize>(&self, first: usize) -> [u64; N]
+        requires { first + N ≤ 302 }
+        ensures { result ≡ numbers_from N first self.now.list }
+    {
+        let mut v = [0u64; N];
+        v.copy_from_slice(&self.list[first..first + N]);
+        v
+    }
+
+    // The record whose values stand from place `first` on.
+    pub(crate) fn record(&self, typ: u64, revision: u64, first: usize) -> Record
+        requires { first + most ≤ 302 }
+        ensures { (result.typ ≡ typ) × (result.revision ≡ revision) × (result.values ≡ numbers_from most first self.now.list) }
+    {
+        Record {
+            typ,
+            revision,
+            values: self.part(first),
+        }
+    }
+
+    // All of them from place `first` on, if there are so many.
+    pub(crate) fn rest(&self, first: usize) -> Option<&[u64]> {
+        self.list.get(first..self.count?)
+    }
+}
+
+// A line as it was read.
+#[derive(Drop)]
+pub struct Read {
+    pub command: Command,
+    pub numbers: Numbers,
+}
+
+// Reads a line of the test program (`all`) or of the desk. A bool and no enum of the two, since `command_of` and `State` of specs/ have it so.
 pub(crate) fn of_line(text: &[u8], all: bool) -> Read
-    ensures { (result.command ≡ command_of_line all text.now) × (result.count ≡ count_of 302 text.now) × (result.list ≡ fronted (numbers_of 302 text.now) (replicate 302 0)) }
+    ensures read { (result.command ≡ command_of_line all text.now) × (unwrap_or result.numbers.count none ≡ count_of 302 text.now) × (result.numbers.list ≡ fronted (numbers_of 302 text.now) (replicate 302 0)) }
+    ensures within { IfSome result.numbers.count (λ n. n ≤ 302) }
 {
     let end = words::first(text);
     let mut list = [0u64; MOST];
     let count = words::numbers(text, &mut list);
-    let command = named(all, &text[0..end], count, list[0], list[1], list[2]);
+    let numbers = Numbers { count, list };
     Read {
-        command: command,
-        count: count,
-        list: list,
+        command: named(all, &text[..end], &numbers),
+        numbers,
     }
 }
 
-// The command of a word, so many numbers, and the first three of them: one that both programs have, or one of the test program (`all`) or of the desk.
-fn named(all: bool, word: &[u8], count: usize, a: u64, b: u64, n: u64) -> Command
-    ensures { result ≡ command_of all word.now count a b n }
+// The command of a word, so many numbers, and the first three of them: one of the test program (`all`) or of the desk.
+fn named(all: bool, word: &[u8], numbers: &Numbers) -> Command
+    ensures { result ≡ command_of all word.now (unwrap_or numbers.now.count none) (slice_index numbers.now.list 0) (slice_index numbers.now.list 1) (slice_index numbers.now.list 2) }
 {
-    let i = words::place(
-        word,
-        count,
-        b"check 0 bytes 0 list 0 shell 0 directory 0 table 0 entry 1 chain 1 ticket 1 ticket 2 rest 1 rest 2 buffer 1 field 3 record * mark 2 date 1 stamp 3 set * encode-entry 7 encode-head 3 encode-tail 4 encode-header 3 encode-ticket * encode-shell 17 encode-table *",
-    );
-    if i < 26 {
-        return common(i, count, a, b, n);
+    match str::from_utf8(word) {
+        Ok(word) => found(all, word, numbers),
+        Err(_) => Command::Unknown,
     }
-    if all {
-        return trial(
-            words::place(
-                word,
-                count,
-                b"image 1 keep 0 touched 0 at * value * crc * decode-entry * decode-head * decode-tail * decode-header * decode-ticket * decode-shell * decode-table *",
-            ),
-            count,
-            a,
-            b,
-            n,
-        );
-    }
-    desk(words::place(word, count, b"save * touched *"))
 }
 
 // A command with values, where they are as many as they are to be; else the line is not understood.
@@ -161,82 +182,101 @@ fn suited(suits: bool, command: Command) -> Command
     if suits { command } else { Command::Unknown }
 }
 
-// The command at a place of the list of those that both programs have.
-fn common(i: usize, count: usize, a: u64, b: u64, n: u64) -> Command
-    ensures { result ≡ command_at i Commands·common count a b n }
+// One that is the test program's (`all`) or the desk's.
+fn found(all: bool, word: &str, numbers: &Numbers) -> Command
+    ensures { result ≡ command_of all word.now (unwrap_or numbers.now.count none) (slice_index numbers.now.list 0) (slice_index numbers.now.list 1) (slice_index numbers.now.list 2) }
 {
-    match i {
-        0 => Command::Look(Look::Check),
-        1 => Command::Look(Look::Bytes),
-        2 => Command::Look(Look::List),
-        3 => Command::Look(Look::Shell),
-        4 => Command::Look(Look::Directory),
-        5 => Command::Look(Look::Table),
-        6 => Command::Look(Look::Entry(a as usize)),
-        7 => Command::Look(Look::Chain(a as usize)),
-        8 => Command::Lend(Lend::Ticket(a as usize)),
-        9 => Command::Lend(Lend::TicketIn(a as usize, b as usize)),
-        10 => Command::Lend(Lend::Rest(a as usize)),
-        11 => Command::Lend(Lend::RestIn(a as usize, b as usize)),
-        12 => Command::Lend(Lend::Buffer(a as usize)),
-        13 => Command::Change(Change::Field(a as usize, b as usize, n)),
-        14 => suited(
-            values::suit(b, n, 3, count),
-            Command::Change(Change::Record(a as usize, b, n)),
-        ),
-        15 => Command::Change(Change::Mark(a as usize, b as usize)),
-        16 => Command::Reckon(Reckon::Date(a)),
-        17 => Command::Reckon(Reckon::Stamp(a, b, n)),
-        18 => suited(
-            values::suit(a, b, 4, count),
-            Command::Reckon(Reckon::Set(a, b, n as usize)),
-        ),
-        19 => Command::Encode(Encode::Entry),
-        20 => Command::Encode(Encode::Head),
-        21 => Command::Encode(Encode::Tail),
-        22 => Command::Encode(Encode::Header),
-        23 => suited(
-            values::suit(a, b, 2, count),
-            Command::Encode(Encode::Ticket(a, b)),
-        ),
-        24 => Command::Encode(Encode::Shell(a as usize)),
-        25 => Command::Encode(Encode::Table(a, b as usize)),
-        _ => Command::Unknown,
+    match common(word, numbers) {
+        Some(command) => command,
+        None if all => trial(word, numbers),
+        None => desk(word),
     }
 }
 
-// The command at a place of the list of those that the test program has besides.
-fn trial(i: usize, count: usize, a: u64, b: u64, n: u64) -> Command
-    ensures { result ≡ command_at i Commands·trial count a b n }
+// One that both programs have, if it is one. By `as usize`: from u64 there is no `From`, and a number stays as it is, as the contract says, since usize has 64 bits.
+fn common(word: &str, numbers: &Numbers) -> Option<Command>
+    ensures { Finds result Commands·common word.now (unwrap_or numbers.now.count none) (slice_index numbers.now.list 0) (slice_index numbers.now.list 1) (slice_index numbers.now.list 2) }
 {
-    match i {
-        0 => Command::Make(Make::Zeros(a as usize)),
-        1 => Command::Make(Make::Keep),
-        2 => Command::Make(Make::Touched),
-        3 => Command::Make(Make::At),
-        4 => suited(
+    let Numbers {
+        count,
+        list: [a, b, n, ..],
+    } = *numbers;
+    match (word, count) {
+        ("check", Some(0)) => Some(Command::Look(Look::Check)),
+        ("bytes", Some(0)) => Some(Command::Look(Look::Bytes)),
+        ("list", Some(0)) => Some(Command::Look(Look::List)),
+        ("shell", Some(0)) => Some(Command::Look(Look::Shell)),
+        ("directory", Some(0)) => Some(Command::Look(Look::Directory)),
+        ("table", Some(0)) => Some(Command::Look(Look::Table)),
+        ("entry", Some(1)) => Some(Command::Look(Look::Entry(a as usize))),
+        ("chain", Some(1)) => Some(Command::Look(Look::Chain(a as usize))),
+        ("ticket", Some(1)) => Some(Command::Lend(Lend::Ticket(a as usize))),
+        ("ticket", Some(2)) => Some(Command::Lend(Lend::TicketIn(a as usize, b as usize))),
+        ("rest", Some(1)) => Some(Command::Lend(Lend::Rest(a as usize))),
+        ("rest", Some(2)) => Some(Command::Lend(Lend::RestIn(a as usize, b as usize))),
+        ("buffer", Some(1)) => Some(Command::Lend(Lend::Buffer(a as usize))),
+        ("field", Some(3)) => Some(Command::Change(Change::Field(a as usize, b as usize, n))),
+        ("record", _) => Some(suited(
+            values::suit(b, n, 3, count),
+            Command::Change(Change::Record(a as usize, b, n)),
+        )),
+        ("mark", Some(2)) => Some(Command::Change(Change::Mark(a as usize, b as usize))),
+        ("date", Some(1)) => Some(Command::Reckon(Reckon::Date(a))),
+        ("stamp", Some(3)) => Some(Command::Reckon(Reckon::Stamp(a, b, n))),
+        ("set", _) => Some(suited(
+            values::suit(a, b, 4, count),
+            Command::Reckon(Reckon::Set(a, b, n as usize)),
+        )),
+        ("encode-entry", Some(7)) => Some(Command::Encode(Encode::Entry)),
+        ("encode-head", Some(3)) => Some(Command::Encode(Encode::Head)),
+        ("encode-tail", Some(4)) => Some(Command::Encode(Encode::Tail)),
+        ("encode-header", Some(3)) => Some(Command::Encode(Encode::Header)),
+        ("encode-ticket", _) => Some(suited(
+            values::suit(a, b, 2, count),
+            Command::Encode(Encode::Ticket(a, b)),
+        )),
+        ("encode-shell", Some(17)) => Some(Command::Encode(Encode::Shell(a as usize))),
+        ("encode-table", _) => Some(Command::Encode(Encode::Table(a, b as usize))),
+        _ => None,
+    }
+}
+
+// One that the test program has besides.
+fn trial(word: &str, numbers: &Numbers) -> Command
+    ensures { result ≡ command_in Commands·trial word.now (unwrap_or numbers.now.count none) (slice_index numbers.now.list 0) (slice_index numbers.now.list 1) (slice_index numbers.now.list 2) }
+{
+    let Numbers {
+        count,
+        list: [a, b, n, ..],
+    } = *numbers;
+    match (word, count) {
+        ("image", Some(1)) => Command::Make(Make::Zeros(a as usize)),
+        ("keep", Some(0)) => Command::Make(Make::Keep),
+        ("touched", Some(0)) => Command::Make(Make::Touched),
+        ("at", _) => Command::Make(Make::At),
+        ("value", _) => suited(
             values::suit(a, b, 3, count),
             Command::Reckon(Reckon::Value(a, b, n as usize)),
         ),
-        5 => Command::Decode(Decode::Crc),
-        6 => Command::Decode(Decode::Entry),
-        7 => Command::Decode(Decode::Head),
-        8 => Command::Decode(Decode::Tail),
-        9 => Command::Decode(Decode::Header),
-        10 => Command::Decode(Decode::Ticket),
-        11 => Command::Decode(Decode::Shell),
-        12 => Command::Decode(Decode::Table),
+        ("crc", _) => Command::Decode(Decode::Crc),
+        ("decode-entry", _) => Command::Decode(Decode::Entry),
+        ("decode-head", _) => Command::Decode(Decode::Head),
+        ("decode-tail", _) => Command::Decode(Decode::Tail),
+        ("decode-header", _) => Command::Decode(Decode::Header),
+        ("decode-ticket", _) => Command::Decode(Decode::Ticket),
+        ("decode-shell", _) => Command::Decode(Decode::Shell),
+        ("decode-table", _) => Command::Decode(Decode::Table),
         _ => Command::Unknown,
     }
 }
 
-// The command at a place of the list of those that the desk has besides.
-fn desk(i: usize) -> Command
-    ensures { OfNone result i Commands·desk }
+// One that the desk has besides.
+fn desk(word: &str) -> Command
+    ensures { OfDesk result word.now }
 {
-    match i {
-        0 => Command::File(File::Save),
-        1 => Command::File(File::Touched),
+    match word {
+        "save" => Command::File(File::Save),
+        "touched" => Command::File(File::Touched),
         _ => Command::Unknown,
     }
 }

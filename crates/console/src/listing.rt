@@ -1,69 +1,65 @@
 // The listing of a card on standard output: its header line and a line for each product, or why it is refused.
-use card::{Checked, Shape};
+use card::{Mark, Reason, Refusal, Shape};
+use directory::TYP;
 use text::prints;
 
 // The largest image that can be accepted.
 pub const LARGEST_ACCEPTED: usize = 60439;
 
 // Over the largest image nothing is looked at: document 01 has it refused with 1, entry 0.
-pub fn list(image: &[u8]) {
+pub fn list(rt: &impl Print, image: &[u8]) {
     if LARGEST_ACCEPTED < image.len() {
-        refused(rules::WRONG_LENGTH, 0);
+        refused(rt, Refusal::from(Reason::WrongLength));
         return;
     }
     match card::check(image) {
-        Checked::Accepted(g) => {
-            header(g);
-            products(image, g.entries);
+        Ok(g) => {
+            header(rt, g);
+            products(rt, image, g.entries);
         }
-        Checked::Refused(number, entry) => refused(number, entry),
+        Err(refusal) => refused(rt, refusal),
     }
 }
 
-fn refused(number: usize, entry: usize) {
-    prints::say(b"refused ");
-    prints::plain(number, entry);
+fn refused(rt: &impl Print, refusal: Refusal) {
+    let number = refusal.reason.number();
+    prints::line(rt, format_args!("refused {number} {}", refusal.entry));
 }
 
 // S, B, e# and the copy in force.
-fn header(g: Shape) {
-    prints::say(b"card");
-    prints::values(&[g.sectors as u64, g.size as u64, g.entries as u64]);
-    if g.copy == 0 {
-        prints::say(b" A\n");
-    } else {
-        prints::say(b" B\n");
-    }
+fn header(rt: &impl Print, g: Shape) {
+    let copy = if g.copy == 0 { "A" } else { "B" };
+    prints::line(
+        rt,
+        format_args!("card {} {} {} {copy}", g.sectors, g.size, g.entries),
+    );
 }
 
-fn products(image: &[u8], entries: usize) {
-    let mut j = 0;
-    while j < entries {
-        j += 1;
-        product(image, j);
+fn products(rt: &impl Print, image: &[u8], entries: usize) {
+    for j in 1..=entries {
+        product(rt, image, j);
     }
 }
 
 // The line of an entry: its number, TYP, mark and sectors; nothing where it is no product.
-fn product(image: &[u8], j: usize) {
-    let e = card::read_entry(image, j);
-    if e.number != 0 {
+fn product(rt: &impl Print, image: &[u8], j: usize) {
+    let (Ok(entry), Ok(chain)) = (card::read_entry(image, j), card::read_chain(image, j)) else {
         return;
-    }
-    let v = e.values;
-    prints::number(j as u64);
-    prints::also(v[2]);
-    let c = card::read_chain(image, j);
-    mark(c.mark);
-    let sectors = c.sectors;
-    prints::first(&sectors, c.count);
-    prints::end();
+    };
+    let sectors = chain.sectors.map(u64::from);
+    // By `min`: that the count is within its list is said by the definition of `read_chain`, and not by the type.
+    let list = prints::Values(&sectors[..chain.count.min(sectors.len())]);
+    prints::line(
+        rt,
+        format_args!("{j} {} {}{list}", entry[TYP], mark(chain.mark)),
+    );
 }
 
-fn mark(m: usize) {
+// These words are the program's and not the library's, so `Mark` has no `Display`.
+fn mark(m: Mark) -> &'static str {
     match m {
-        0 => prints::say(b" fresh"),
-        1 => prints::say(b" used"),
-        _ => prints::say(b" blocked"),
+        Mark::Fresh => "fresh",
+        Mark::Used => "used",
+        Mark::Blocked => "blocked",
     }
 }

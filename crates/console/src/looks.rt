@@ -1,66 +1,40 @@
 // Commands that look at the image.
 use crate::commands::Look;
-use crate::listing;
-use card::Checked;
+use crate::{answers, listing};
+use card::{ChainRead, TableRead};
 use text::prints;
 
-pub(crate) fn look(asked: Look, image: &[u8]) {
+// Where a list is printed C's structs stand between: what is printed is what C is told, zeros on a refusal, and the count beside the list.
+pub(crate) fn look(rt: &impl Print, asked: Look, image: &[u8]) {
     match asked {
-        Look::Check => check(image),
-        Look::Bytes => bytes(image),
-        Look::List => listing::list(image),
-        Look::Shell => shell(image),
-        Look::Directory => directory(image),
-        Look::Table => table(image),
-        Look::Entry(j) => entry(image, j),
-        Look::Chain(j) => chain(image, j),
+        Look::Check => answers::plain(rt, card::check(image)),
+        Look::Bytes => prints::line(rt, prints::Hex(image)),
+        Look::List => listing::list(rt, image),
+        Look::Shell => answers::valued(rt, card::read_shell(image)),
+        Look::Directory => answers::valued(rt, card::read_directory(image)),
+        Look::Table => {
+            let r = TableRead::from(card::read_table(image));
+            counted(rt, r.number, r.entry, r.elements, r.count);
+        }
+        Look::Entry(j) => answers::valued(rt, card::read_entry(image, j)),
+        Look::Chain(j) => chain(rt, image, j),
     }
 }
 
-fn check(image: &[u8]) {
-    let Checked::Refused(number, entry) = card::check(image) else {
-        prints::plain(0, 0);
-        return;
-    };
-    prints::plain(number, entry);
-}
-
-// The whole image.
-fn bytes(image: &[u8]) {
-    prints::bytes(image);
-    prints::end();
-}
-
-fn shell(image: &[u8]) {
-    let r = card::read_shell(image);
-    let v = r.values;
-    prints::valued(r.number, r.entry, &v);
-}
-
-fn directory(image: &[u8]) {
-    let r = card::read_directory(image);
-    let v = r.values;
-    prints::valued(r.number, r.entry, &v);
-}
-
-fn table(image: &[u8]) {
-    let r = card::read_table(image);
-    let list = r.elements;
-    prints::counted(r.number, r.entry, &list, r.count);
-}
-
-fn entry(image: &[u8], j: usize) {
-    let r = card::read_entry(image, j);
-    let v = r.values;
-    prints::valued(r.number, r.entry, &v);
+// The number, the entry and the first `count` of the sectors. By `min` here and below: that a count is within its list is said by the call's definition,
+// and not by the type.
+pub(crate) fn counted(rt: &impl Print, number: usize, entry: usize, list: [u8; 252], count: usize) {
+    let all = list.map(u64::from);
+    prints::valued(rt, number, entry, &all[..count.min(all.len())]);
 }
 
 // The mark, the number of sectors, and the sectors.
-fn chain(image: &[u8], j: usize) {
-    let r = card::read_chain(image, j);
-    let list = r.sectors;
-    prints::verdict(r.number, r.entry);
-    prints::values(&[r.mark as u64, r.count as u64]);
-    prints::first(&list, r.count);
-    prints::end();
+fn chain(rt: &impl Print, image: &[u8], j: usize) {
+    let r = ChainRead::from(card::read_chain(image, j));
+    let sectors = r.sectors.map(u64::from);
+    let list = prints::Values(&sectors[..r.count.min(sectors.len())]);
+    prints::line(
+        rt,
+        format_args!("{} {} {} {}{list}", r.number, r.entry, r.mark, r.count),
+    );
 }

@@ -1,3 +1,4 @@
 pub mod Fixed
+pub mod Told
 pub mod Once
 pub mod OnceC

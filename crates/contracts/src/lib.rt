@@ -3,14 +3,14 @@
 #![tactic(auto)]
 
 ghost use Rattle.std.specs.Prelude.{◌≡◌, ◌+◌, length};
-ghost use Rattle.image.specs.Check.{check_of};
+ghost use Rattle.image.specs.Check.{check_of, checked};
 ghost use Rattle.reads.specs.Ticket.{rest, rest_at};
 
-use card::Checked;
+use card::{Refusal, Shape};
 
 // Whether an image is accepted, and its shape.
-pub fn check(image: &[u8]) -> Checked
-    ensures { result ≡ check_of image.now }
+pub fn check(image: &[u8]) -> Result<Shape, Refusal>
+    ensures { checked result ≡ check_of image.now }
 {
     card::check(image)
 }

@@ -1,11 +1,11 @@
 -- The shifts of the code, and that they are 64 clocks; and fewer clocks by these. Assumes nothing.
-use mathlib.Core.Path.{◌≡◌, sym, ap, ◌∙◌}
+use mathlib.Core.Path.{◌≡◌, sym, ap, ap₂, ◌∙◌}
 use Prim.Native.Nat.{ℕ, zero, suc, ◌+◌, ◌*◌, ◌/◌, ◌%◌, ◌^◌, ◌<◌}
-use native.Mathlib.Nat.{mod-eq_of_lt, mul-lt-mul_of_pos_right, pow-succ', zero-add, suc-add}
+use native.Mathlib.Nat.{pow-succ', add-zero, zero-add, suc-add, mul-mod_left, mod-lt}
 use native.Mathlib.Omega.{arith}
 use lib.Dec.{T}
-use lib.Bits.{bit_xor, xor_lt, xor_zero_l}
-use lib.Pow.{pow-add, pow_pos}
+use lib.Bits.{bit_xor, xor_lt, xor_zero_l, xor_shifted}
+use lib.Pow.{pow_pos, split, shl-shr, mod-pow-add}
 use Rattle.crc.specs.Crc.{clock, clocks}
 use Rattle.crc.specs.Carry.{left, right, once, twice, spread, carried}
 use Rattle.crc.proofs.Step.{clocks_in, clocks-lt, clocks-sum}
@@ -74,40 +74,29 @@ zeros (suc k) m x =
     let e : x * 2 ^ suc k ≡ x * 2 ^ k * 2 = rw (pow-succ' 2 k) (omega arith) in
     ap (λ (n : ℕ). clocks n 0 (x * 2 ^ suc k)) (suc-add k m) ∙ ap (clocks (k + m) 0) (ap (λ (z : ℕ). clock z 0) e ∙ even (x * 2 ^ k)) ∙ zeros k m x
 
--- the register and n bits of data, moved up by k
-pub fewer : (k n r w x y : ℕ) → k + n ≡ 64 → r < 2 ^ n → w < 2 ^ n → x ≡ left k (bit_xor r w) → y ≡ clocks 64 x 0 → y ≡ clocks n w r
-fewer k n r w x y e h i p q =
-    let b : bit_xor r w < 2 ^ n = xor_lt n r w h i in
-    let s : 2 ^ n * 2 ^ k ≡ 2 ^ 64 = sym (pow-add 2 n k) ∙ ap (λ (m : ℕ). 2 ^ m) (let z : n + k ≡ 64 = omega arith in z) in
-    let t : bit_xor r w * 2 ^ k < 2 ^ 64 = rw s at (mul-lt-mul_of_pos_right b (pow_pos k)) in
-    q ∙ ap (λ (z : ℕ). clocks 64 z 0) (p ∙ mod-eq_of_lt t) ∙ from_zero 64 (bit_xor r w * 2 ^ k) t
-    ∙ ap (λ (m : ℕ). clocks m 0 (bit_xor r w * 2 ^ k)) (sym e) ∙ zeros k n (bit_xor r w) ∙ sym (clocks_in n w r i)
+-- what is shifted out comes beside, and n clocks of zeros of what is not are 64 of it moved up by the others
+beside : (k n x : ℕ) → n + k ≡ 64 → bit_xor (right n x) (clocks 64 0 (left k x)) ≡ clocks n 0 x
+unfolding clocks
+beside k n x e =
+    let h : ℕ = right n x in
+    let l : ℕ = x % 2 ^ n in
+    let p : x ≡ bit_xor (h * 2 ^ n) l = sym (xor_shifted h n l (mod-lt x (pow_pos n)) ∙ split x n) in
+    let q : left k x ≡ l * 2 ^ k =
+    ap (λ (m : ℕ). x * 2 ^ k % 2 ^ m) (sym e) ∙ mod-pow-add (x * 2 ^ k) n k
+    ∙ ap₂ (λ (a b : ℕ). a % 2 ^ n * 2 ^ k + b) (shl-shr x k) (mul-mod_left x (2 ^ k)) ∙ add-zero (l * 2 ^ k) in
+    let f : k + n ≡ 64 = omega arith in
+    ap₂ bit_xor (sym (rw add-zero at (zeros n 0 h))) (ap (clocks 64 0) q ∙ ap (λ (m : ℕ). clocks m 0 (l * 2 ^ k)) (sym f) ∙ zeros k n l)
+    ∙ sym (ap (clocks n 0) p ∙ clocks-sum n (h * 2 ^ n) l)
 
--- ---- one byte and six: what is left of the register comes beside them
-
-abbrev beside : ℕ → ℕ → ℕ → ℕ
-beside k n x = bit_xor (right n x) (clocks 64 0 (left k x))
-
-beside_linear : (k n : ℕ) → Linear (beside k n)
-beside_linear k n = plus (right n) (λ x. clocks 64 0 (left k x)) (rights n) (then (left k) (clocks 64 0) (lefts k) (clocked 64))
-
-abbrev Beside : ℕ → ℕ → Type 0
-Beside k n = T (agrees 64 (beside k n) (clocks n 0))
-
-pub beside_8 : Beside 56 8
-unfolding clocks clock
-beside_8 = tt
-
-pub beside_48 : Beside 16 48
-unfolding clocks clock
-beside_48 = tt
-
-pub beside_law : (k n : ℕ) → Beside k n → (r w y : ℕ) → r < 2 ^ 64 → w < 2 ^ 64 → w < 2 ^ n → y ≡ clocks 64 (left k (bit_xor r w)) 0
+-- the register and n bits of data
+pub after_law : (k n r w y : ℕ) → n + k ≡ 64 → w < 2 ^ n → y ≡ clocks 64 (left k (bit_xor r w)) 0
     → bit_xor (right n (bit_xor r w)) y ≡ clocks n w r
-beside_law k n t r w y h l i q =
-    let x : ℕ = bit_xor r w in
-    ap (bit_xor (right n x)) (q ∙ from_zero 64 (left k x) (omega arith))
-    ∙ agree 64 (beside k n) (clocks n 0) (beside_linear k n) (clocked n) t x (xor_lt 64 r w h l) ∙ sym (clocks_in n w r i)
+after_law k n r w y e h q =
+    ap (bit_xor (right n (bit_xor r w))) (q ∙ from_zero 64 (left k (bit_xor r w)) (omega arith)) ∙ beside k n (bit_xor r w) e ∙ sym (clocks_in n w r h)
+
+-- and 64 bits of it
+pub whole_law : (r w y : ℕ) → r < 2 ^ 64 → w < 2 ^ 64 → y ≡ clocks 64 (bit_xor r w) 0 → y ≡ clocks 64 w r
+whole_law r w y h l q = q ∙ from_zero 64 (bit_xor r w) (xor_lt 64 r w h l) ∙ sym (clocks_in 64 w r l)
 
 -- ---- 64 clocks that leave 64 bits
 

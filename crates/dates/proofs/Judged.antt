@@ -15,7 +15,8 @@ use Rattle.dates.specs.Calendar.{date, leap, month_days, stamp_of}
 use Rattle.dates.specs.Impossible.{Possible, Before, Unstamped}
 use Rattle.dates.specs.Impossible.Before.{by_year, by_month, by_day}
 use Rattle.dates.specs.Impossible.Unstamped.{impossible, too_early, too_late}
-use Rattle.dates.proofs.Joined.{either, neither}
+use Rattle.std.proofs.lemmas.Bool.{or_parts}
+use Rattle.dates.proofs.Joined.{either}
 use Rattle.dates.proofs.Months.{no_month, a_month, month-least, month-most, february, other_month}
 use Rattle.dates.proofs.Years.{leap_fourth, not_fourth}
 use Rattle.dates.proofs.Bounds.{Stampable, takes, refuses, never_both, sorted}
@@ -53,7 +54,7 @@ module _ (y m d : ℕ) where
     -- each month has the days 1 to 28
     pub first-days : ltb d 1 || ltb 28 d ≡ false → Possible (date y m d)
     first-days e =
-        let (u, v) = neither (ltb d 1) (ltb 28 d) e in
+        let (u, v) = or_parts (ltb d 1) (ltb 28 d) e in
         let (from, to) = a_month m a in
         omega (arith, ltb-false, month-least y m from to)
 
@@ -68,7 +69,7 @@ module _ (y m d : ℕ) where
 
       pub last-days : ltb d 1 || ltb (30 + (m + m / 8) % 2) d ≡ false → Possible (date y m d)
       last-days e =
-          let (u, v) = neither (ltb d 1) (ltb (30 + (m + m / 8) % 2) d) e in
+          let (u, v) = or_parts (ltb d 1) (ltb (30 + (m + m / 8) % 2) d) e in
           let (from, to) = a_month m a in
           omega (arith, ltb-false, days)
 
@@ -97,7 +98,7 @@ module _ (y m d : ℕ) where
 
     pub leap-day : 1997 ≤ y → y ≤ 2041 → not (eqb d 29) || not (eqb (y % 4) 0) ≡ false → Possible (date y m d)
     leap-day f l h =
-        let (u, v) = neither (not (eqb d 29)) (not (eqb (y % 4) 0)) h in
+        let (u, v) = or_parts (not (eqb d 29)) (not (eqb (y % 4) 0)) h in
         let r = eqb-true d 29 (not-false _ u) in
         let z = eqb-true (y % 4) 0 (not-false _ v) in
         omega (arith, last, leap_fourth y f l)

@@ -14,3 +14,4 @@ pub mod Judged
 pub mod Exactly
 pub mod Undo
 pub mod Examples
+pub mod Once

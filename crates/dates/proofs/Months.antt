@@ -14,7 +14,8 @@ use borrow.Author.Tests.{ltb-true, ltb-false}
 use mir.Val.{bool_byte}
 use Rattle.dates.specs.Calendar.{leap, months, month_days}
 use Rattle.dates.specs.Counting.{days_before}
-use Rattle.dates.proofs.Joined.{either, neither}
+use Rattle.std.proofs.lemmas.Bool.{or_parts}
+use Rattle.dates.proofs.Joined.{either}
 use Rattle.dates.proofs.Every.{every, from-every}
 
 -- the sum of the first m numbers of a list
@@ -54,7 +55,7 @@ pub no_month : (y m : ℕ) → ltb m 1 || ltb 12 m ≡ true → month_days y m �
 no_month y m = either (ltb m 1) (ltb 12 m) (λ t. no_zeroth y m (ltb-true m 1 t)) (λ t. no_thirteenth y m (ltb-true 12 m t))
 
 pub a_month : (m : ℕ) → ltb m 1 || ltb 12 m ≡ false → (1 ≤ m) × (m ≤ 12)
-a_month m e = let (a, b) = neither (ltb m 1) (ltb 12 m) e in omega (arith, ltb-false)
+a_month m e = let (a, b) = or_parts (ltb m 1) (ltb 12 m) e in omega (arith, ltb-false)
 
 -- February has a day more in a leap year; of the others the odd ones have 31 days up to July, and from August on the even ones
 pub february : (y : ℕ) → month_days y 2 ≡ 28 + bool_byte (leap y)

@@ -43,6 +43,9 @@ one_stamp s t h k e = one_day s t h k (sym (number_of s) ∙ ap day_number e ∙
 
 -- ---- what `date` answers
 
+pub day_fits : (s : ℕ) → s ≤ 16383 → day_of s ≤ 16384
+day_fits s h = day-to s (omega arith)
+
 pub taken : (s : ℕ) → s ≤ 16383 → date_of s ≡ dated 0 (stamp_date s)
 taken s h = rw (le-ltb 16383 s h)
 

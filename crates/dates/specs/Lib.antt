@@ -1,3 +1,4 @@
 pub mod Calendar
 pub mod Impossible
 pub mod Counting
+pub mod Coded

@@ -1,14 +1,17 @@
-// Date stamps and calendar dates, both ways (document 01, "Dates").
+// Date stamps and calendar dates, both ways (document 01, "Dates"). Of a refused result C is told zeros, by name in the definitions
+// (`coded_date`, `coded_stamp`): so they stand in full, and no `Default` is derived.
 #![tactic(auto)]
 
 ghost use Rattle.std.specs.Prelude.{◌≡◌};
 ghost use Rattle.dates.specs.Calendar.{day_of, date_of, stamp_of};
+ghost use Rattle.dates.specs.Coded.{coded_date, coded_stamp};
 
 mod calendar;
 
-use calendar::{Date, day_number, has_stamp, on_day};
+pub use calendar::Date;
+use rules::{Reason, said};
 
-// The date of a stamp; zeros where refused.
+// What C is told of a stamp's date: it, or zeros.
 #[repr(C)]
 #[derive(Drop)]
 pub struct Dated {
@@ -19,13 +22,47 @@ pub struct Dated {
     pub day: u64,
 }
 
-// The stamp of a date; 0 where refused.
+impl From<Result<Date, Reason>> for Dated {
+    ghost from_gives = { λ r d. d ≡ coded_date r };
+
+    fn from(found: Result<Date, Reason>) -> Dated {
+        let number = said(&found);
+        let Date { year, month, day } = found.unwrap_or(Date {
+            year: 0,
+            month: 0,
+            day: 0,
+        });
+        Dated {
+            number,
+            entry: 0,
+            year,
+            month,
+            day,
+        }
+    }
+}
+
+// What C is told of a date's stamp: it, or 0.
 #[repr(C)]
 #[derive(Drop)]
 pub struct Stamped {
     pub number: usize,
     pub entry: usize,
     pub stamp: u64,
+}
+
+impl From<Result<u64, Reason>> for Stamped {
+    ghost from_gives = { λ r s. s ≡ coded_stamp r };
+
+    fn from(found: Result<u64, Reason>) -> Stamped {
+        let number = said(&found);
+        let stamp = found.unwrap_or(0);
+        Stamped {
+            number,
+            entry: 0,
+            stamp,
+        }
+    }
 }
 
 // The day number of a stamp, counted from 1 January 1997.
@@ -35,45 +72,25 @@ pub fn day(stamp: u64) -> u64
     if stamp == 0 { 16384 } else { stamp }
 }
 
-// The calendar date of a stamp.
-#[tactic(auto, using(crate::proofs::Stamps::refused, crate::proofs::Stamps::taken))]
-pub fn date(stamp: u64) -> Dated
-    ensures { result ≡ date_of stamp }
+// The calendar date of a stamp; or 30.
+#[tactic(auto, using(crate::proofs::Stamps::refused, crate::proofs::Stamps::taken, crate::proofs::Stamps::day_fits))]
+pub fn date(stamp: u64) -> Result<Date, Reason>
+    ensures { coded_date result ≡ date_of stamp }
 {
     if 16383 < stamp {
-        return Dated {
-            number: rules::NO_STAMP,
-            entry: 0,
-            year: 0,
-            month: 0,
-            day: 0,
-        };
+        return Err(Reason::NoStamp);
     }
-    let d = on_day(day(stamp));
-    Dated {
-        number: 0,
-        entry: 0,
-        year: d.year,
-        month: d.month,
-        day: d.day,
-    }
+    Ok(Date::on_day(day(stamp)))
 }
 
-// The stamp of a calendar date.
-pub fn stamp(year: u64, month: u64, day: u64) -> Stamped
-    ensures { result ≡ stamp_of year month day }
+// The stamp of a calendar date; or 29. A published call: it takes the three numbers by which document 01 gives a date.
+pub fn stamp(year: u64, month: u64, day: u64) -> Result<u64, Reason>
+    ensures { coded_stamp result ≡ stamp_of year month day }
 {
-    if has_stamp(year, month, day) {
-        let n = day_number(Date { year, month, day });
-        return Stamped {
-            number: 0,
-            entry: 0,
-            stamp: n % 16384,
-        };
-    }
-    Stamped {
-        number: rules::NO_DATE,
-        entry: 0,
-        stamp: 0,
+    let date = Date { year, month, day };
+    if date.has_stamp() {
+        Ok(date.day_number() % 16384)
+    } else {
+        Err(Reason::NoDate)
     }
 }

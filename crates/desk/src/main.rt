@@ -6,7 +6,7 @@ use std::rt::Env;
 fn main(rt: HostRuntime) {
     let mut path = io::buffer();
     let Ok(length) = rt.arg(1, &mut path) else {
-        text::prints::say(b"desk FILE: the file of an image is to be named\n");
+        let _ = println!(rt; "desk FILE: the file of an image is to be named");
         return;
     };
     console::desk(&rt, &mut rt.stdin(), &path[..length]);

@@ -32,6 +32,7 @@ fn pairs(v: u64) -> u64
 }
 
 // Whether the two digits of `high` and the sixteen of `low` end in their check digit: divided by 255, a word and the sum of its bytes leave the same.
+// No struct of both: it would be made for this one call.
 pub fn ends_right(high: u64, low: u64) -> bool
     requires { (high < 256) × Means (decimal 16 high) × Means (decimal 16 low) }
     ensures { result ≡ eqb ((luhn (digits_of 16 low) + luhn (digits_of 16 high)) % 10) 0 }

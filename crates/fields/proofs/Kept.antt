@@ -4,8 +4,8 @@ use mathlib.Core.List.{List, [], ◌∷◌, ◌++◌, append_assoc}
 use Prim.Native.Nat.{ℕ, suc, ◌+◌, ◌-◌, ◌≤◌, ◌<◌}
 use native.Mathlib.Numerals.{add-one}
 use native.Mathlib.Omega.{arith}
-use lib.ListN.{length, get_or, set, take, drop, replicate, length-set, length-append, length-replicate, replicate-append-replicate}
-use lib.Seq.{take-suc, length-take-le, set-append_left, set_at, drop_at}
+use lib.ListN.{length, get_or, set, take, replicate, length-set, length-append}
+use lib.Seq.{take-suc, length-take-le, set-append_left, set_at}
 use Rattle.fields.specs.Padded.{most, held}
 
 pub held-set : (vs : List ℕ) (i v : ℕ) → i < length vs → set (held vs) i v ≡ held (set vs i v)
@@ -25,13 +25,3 @@ held_more vs i h n =
     ap (λ (j : ℕ). set (held (take i vs)) j (get_or vs i 0)) (sym l)
     ∙ behind (take i vs) (get_or vs i 0) (omega arith)
     ∙ ap held (sym (ap (λ (j : ℕ). take j vs) (add-one i) ∙ take-suc vs i 0 (omega arith)))
-
--- zeros whose first values were filled in
-pub held_filled : (vs : List ℕ) (n : ℕ) → length vs ≡ n → n ≤ most → vs ++ drop n (replicate most 0) ≡ held vs
-held_filled vs n e h =
-    let all : n + (most - n) ≡ most = omega arith in
-    ap (λ (zs : List ℕ). vs ++ zs)
-    (ap (λ (m : ℕ). drop n (replicate m 0)) (sym all)
-    ∙ ap (drop n) (sym (replicate-append-replicate n (most - n) 0))
-    ∙ drop_at (replicate n 0) (replicate (most - n) 0) n (length-replicate n 0))
-    ∙ ap (λ (m : ℕ). vs ++ replicate (most - m) 0) (sym e)

@@ -1,6 +1,6 @@
 -- The plan of a list: its places are the list's, and its parts are all of them, each from a whole byte to a whole byte. Assumes nothing.
-use mathlib.Core.Path.{◌≡◌, refl, sym, ap, ◌∙◌}
-use mathlib.Core.Bool.{Bool, true, false, cond, ◌&&◌}
+use mathlib.Core.Path.{◌≡◌, sym, ap, ◌∙◌}
+use mathlib.Core.Bool.{◌&&◌}
 use mathlib.Core.List.{List, [], ◌∷◌}
 use Prim.Native.Nat.{ℕ, zero, suc, ◌+◌, ◌-◌, ◌*◌, ◌/◌, ◌%◌, ◌^◌, ◌≤◌, ◌<◌}
 use native.Mathlib.Nat.{add-zero}
@@ -9,9 +9,7 @@ use native.Mathlib.Omega.{arith}
 use lib.Dec.{T, eqb→eq, leb, leb→le}
 use lib.ListN.{length, get_or, take, drop, length-drop, drop_of_length-le}
 use lib.Seq.{length-take-le, get_or-take, get_or-drop, drop-cons, drop-drop, take_all}
-use Rattle.rules.specs.Answer.{if_done}
 use Rattle.rules.specs.Claim.{Means}
-use Rattle.rules.specs.First.{holds, if_kept, first}
 use Rattle.bits.specs.Bits.{Bytes, field, store}
 use Rattle.bits.proofs.Laws.{field-within}
 use Rattle.fields.specs.declared.Span.{Span}
@@ -20,13 +18,11 @@ use Rattle.fields.specs.declared.plans.Part.{Part}
 use Rattle.fields.specs.declared.plans.Plan.{Plan}
 use Rattle.fields.specs.Lists.{span, list_of, bit_after, nth}
 use Rattle.fields.specs.Ends.{start_of, end_to_end}
-use Rattle.fields.specs.Fields.{at, fields, stores, fit}
-use Rattle.fields.specs.Packed.{pack_number, pack_in}
-use Rattle.fields.specs.Padded.{most, padded, held}
-use Rattle.fields.specs.Plans.{places_in, parts_in, end_in, cut, Sound, Plans, values_in, fits}
+use Rattle.fields.specs.Fields.{at, stores, fit}
+use Rattle.fields.specs.Padded.{most}
+use Rattle.fields.specs.Plans.{places_in, parts_in, end_in, cut, Plans, Sound, values_of}
 use Rattle.fields.specs.Together.{wide, together}
-use Rattle.fields.proofs.Joined.{left, right, head_of, tail_of, nil_of, within, lists-joined, width_small}
-use Rattle.fields.proofs.Padded.{nth-padded}
+use Rattle.fields.proofs.Joined.{left, right, head_of, tail_of, nil_of, within, lists-joined, ends_early, width_small}
 use Rattle.fields.proofs.Together.{place_of, together-lt, stores-together}
 
 -- ---- the parts, one after the other
@@ -127,100 +123,82 @@ module _ {b i : ℕ} {ps : List Span} {q : Part} {qs : List Part} (s : Step b i 
           let m : (nth ps (i + k)).0 + (nth ps (i + k)).1 ≡ 8 * (b + q.1) = (rw o at l) in
           rw n (omega (arith, place_of a ps e t i k (omega (arith, s.fits)), part-starts))
 
--- ---- of a sound plan
+-- ---- of the plan of a list
 
-module _ {r : Plan} (h : Sound r) where
-  pub nth-place : (i : ℕ) → nth r.places i ≡ nth (places_in r) i
-  nth-place i = ap (λ (ps : List Span). nth ps i) h.padded ∙ nth-padded (places_in r) i
+module _ {k : Layout} {r : Plan} (p : Plans k r) where
+  pub few : length (list_of k) ≤ most
+  few = leb→le (length (list_of k)) most p.few
 
-  pub next-part : (b i q : ℕ) → q < r.many → T (cut b (drop i (places_in r)) (drop q (parts_in r)))
-      → Step b i (places_in r) (get_or r.parts q none) (drop (q + 1) (parts_in r))
+  pub short : end_in 2 (parts_in r) ≤ 32
+  short = omega (arith, ends_early k, p.ends)
+
+  pub joined : T (end_to_end 16 (list_of k) (bit_after k))
+  joined = rw (← p.starts) (lists-joined k)
+
+  -- what the routines ask of the slice
+  pub room : (l : List ℕ) → bit_after k ≤ 8 * length l → end_in 2 (parts_in r) ≤ length l
+  room l h = omega (arith, p.ends)
+
+  pub next-part : (b i q : ℕ) → q < length (parts_in r) → T (cut b (drop i (list_of k)) (drop q (parts_in r)))
+      → Step b i (list_of k) (get_or (parts_in r) q none) (drop (q + 1) (parts_in r))
   next-part b i q l t =
-      let e = drop-cons (parts_in r) q none (omega (arith, h.many)) in
-      rw (add-one q, ← get_or-take r.many r.parts q none l) (step b i (places_in r) (get_or (parts_in r) q none) (drop (suc q) (parts_in r)) (rw e at t))
+      let e = drop-cons (parts_in r) q none l in
+      rw (add-one q) (step b i (list_of k) (get_or (parts_in r) q none) (drop (suc q) (parts_in r)) (rw e at t))
 
-  pub next-end : (b q : ℕ) → q < r.many → end_in b (drop q (parts_in r)) ≡ end_in (b + (get_or r.parts q none).1) (drop (q + 1) (parts_in r))
-  next-end b q l =
-      rw (add-one q, drop-cons (parts_in r) q none (omega (arith, h.many)), get_or-take r.many r.parts q none l)
+  pub next-end : (b q : ℕ) → q < length (parts_in r) → end_in b (drop q (parts_in r)) ≡ end_in (b + (get_or (parts_in r) q none).1) (drop (q + 1) (parts_in r))
+  next-end b q l = rw (add-one q, drop-cons (parts_in r) q none l)
+
+  -- a part ends no later than the last
+  pub ends-early : (b q : ℕ) → q < length (parts_in r) → end_in b (drop q (parts_in r)) ≡ end_in 2 (parts_in r)
+      → b + (get_or (parts_in r) q none).1 ≤ end_in 2 (parts_in r)
+  ends-early b q l e = omega (arith, end_after (b + (get_or (parts_in r) q none).1) (drop (q + 1) (parts_in r)), next-end b q l)
 
   -- after the last part no place is left
-  pub all-passed : (b i q : ℕ) → r.many ≤ q → T (cut b (drop i (places_in r)) (drop q (parts_in r))) → r.count ≤ i
+  pub all-passed : (b i q : ℕ) → length (parts_in r) ≤ q → T (cut b (drop i (list_of k)) (drop q (parts_in r))) → length (list_of k) ≤ i
   all-passed b i q l t =
-      let e : drop q (parts_in r) ≡ [] = drop_of_length-le (parts_in r) {i = q} (omega (arith, h.many)) in
-      let z = eqb→eq (length (drop i (places_in r))) 0 (rw e at t) in
-      omega (arith, length-drop i (places_in r), h.count)
+      let e : drop q (parts_in r) ≡ [] = drop_of_length-le (parts_in r) {i = q} l in
+      let z = eqb→eq (length (drop i (list_of k))) 0 (rw e at t) in
+      omega (arith, length-drop i (list_of k))
+
+  pub sound : Sound r
+  sound = record {
+    few = rw p.list few;
+    short = short;
+    narrow = λ i. rw p.list (width_small k i);
+    joined = rw (p.list, p.ends) joined;
+    cut = rw p.list p.cut;
+  }
+
+-- a new list's plan is one by computation, and is sound then
+pub planned : (k : Layout) (r : Plan) → start_of k ≡ 16 → places_in r ≡ list_of k → T (leb (length (list_of k)) most)
+    → 8 * end_in 2 (parts_in r) ≡ bit_after k → T (cut 2 (list_of k) (parts_in r)) → Plans k r × Sound r
+planned k r a l m e t =
+    let p : Plans k r = record { list = l; starts = a; few = m; ends = e; cut = t } in
+    (p, sound p)
 
 -- ---- storing by parts
 
--- l with the first i values that a plan has
-abbrev pub up_to : Plan → List ℕ → List ℕ → ℕ → List ℕ
-up_to r l vs i = stores l (take i (places_in r)) (take i (values_in r vs))
+-- l with the first i values of the list
+abbrev pub up_to : Layout → List ℕ → List ℕ → ℕ → List ℕ
+up_to k l vs i = stores l (take i (list_of k)) (take i (values_of k vs))
 
-module _ {r : Plan} (h : Sound r) (l vs : List ℕ) (bytes : Bytes l) (room : end_in 2 (parts_in r) ≤ length l) (f : Means (fit (places_in r) (values_in r vs))) where
+module _ {k : Layout} {r : Plan} (p : Plans k r) (l vs : List ℕ) (bytes : Bytes l) (h : bit_after k ≤ 8 * length l) (f : Means (fit (list_of k) (values_of k vs))) where
   -- the number of a part fits its bytes
-  pub part-fits : {b i x : ℕ} {q : Part} {qs : List Part} → Step b i (places_in r) q qs → x ≡ together (places_in r) (values_in r vs) i q.0 → x < 2 ^ (8 * q.1)
+  pub part-fits : {b i x : ℕ} {q : Part} {qs : List Part} → Step b i (list_of k) q qs → x ≡ together (list_of k) (values_of k vs) i q.0 → x < 2 ^ (8 * q.1)
   part-fits {i = i} {q = q} s e =
-      rw (e, ← part-wide s 16 (8 * end_in 2 (parts_in r)) h.joined)
-      (together-lt 16 (places_in r) (8 * end_in 2 (parts_in r)) h.joined (values_in r vs) f i q.0 s.fits)
+      rw (e, ← part-wide s 16 (bit_after k) (joined p))
+      (together-lt 16 (list_of k) (bit_after k) (joined p) (values_of k vs) f i q.0 s.fits)
 
   -- one part more
-  pub part-more : {b i x : ℕ} {q : Part} {qs : List Part} {m n : List ℕ} → Step b i (places_in r) q qs → x ≡ together (places_in r) (values_in r vs) i q.0
-      → m ≡ up_to r l vs i → n ≡ store m (8 * b) (8 * q.1) x → n ≡ up_to r l vs (i + q.0)
+  pub part-more : {b i x : ℕ} {q : Part} {qs : List Part} {m n : List ℕ} → Step b i (list_of k) q qs → x ≡ together (list_of k) (values_of k vs) i q.0
+      → m ≡ up_to k l vs i → n ≡ store m (8 * b) (8 * q.1) x → n ≡ up_to k l vs (i + q.0)
   part-more {i = i} {q = q} s e u v =
       v
-      ∙ rw (u, e, ← part-starts s, ← part-wide s 16 (8 * end_in 2 (parts_in r)) h.joined)
-      (sym (stores-together 16 (places_in r) (8 * end_in 2 (parts_in r)) h.joined (values_in r vs) f l bytes (omega arith) i q.0 s.fits))
+      ∙ rw (u, e, ← part-starts s, ← part-wide s 16 (bit_after k) (joined p))
+      (sym (stores-together 16 (list_of k) (bit_after k) (joined p) (values_of k vs) f l bytes h i q.0 s.fits))
 
   -- all of them
-  pub parts_all : (i : ℕ) → i ≡ r.count → up_to r l vs i ≡ stores l (places_in r) (values_in r vs)
+  pub parts_all : (i : ℕ) → i ≡ length (list_of k) → up_to k l vs i ≡ stores l (list_of k) (values_of k vs)
   parts_all i e =
-      ap (λ (ps : List Span). stores l ps (take i (values_in r vs))) (take_all i (places_in r) (omega (arith, h.count)))
-      ∙ ap (stores l (places_in r)) (take_all i (values_in r vs) (omega (arith, f.0, h.count)))
-
--- ---- the plan of a list
-
-module _ {k : Layout} {r : Plan} (p : Plans k r) where
-  pub in_room : (i : ℕ) → i < length (list_of k) → i < most
-  in_room i h = omega (arith, p.count, p.sound.few)
-
-  pub plan-place : (i : ℕ) → nth r.places i ≡ nth (list_of k) i
-  plan-place i = nth-place p.sound i ∙ ap (λ (ps : List Span). nth ps i) p.list
-
-  -- what the routines ask, of the list's end
-  pub plan-asks : (l : List ℕ) → bit_after k ≤ 8 * length l → Sound r × (end_in 2 (parts_in r) ≤ length l)
-  plan-asks l h = (p.sound, omega (arith, p.ends))
-
-  pub plan-values : (l : List ℕ) → held (fields l (places_in r)) ≡ held (fields l (list_of k))
-  plan-values l = ap (λ (ps : List Span). held (fields l ps)) p.list
-
-  -- what storing by a plan answers and leaves is what storing by its list does
-  pub plan-laid : (l vs : List ℕ)
-      → (cond (fits r vs) 0 26 ≡ pack_number k (take (length (list_of k)) vs))
-      × (cond (fits r vs) (stores l (places_in r) (values_in r vs)) l ≡ pack_in k (take (length (list_of k)) vs) l)
-  unfolding pack_number first
-  plan-laid l vs = rw (p.list, p.count) (go (holds (fit (list_of k) (take (length (list_of k)) vs))))
-    where
-      go : (b : Bool) → (cond b 0 26 ≡ if_kept b 0 26)
-          × (cond b (stores l (list_of k) (take (length (list_of k)) vs)) l ≡ if_done (if_kept b 0 26) (stores l (list_of k) (take (length (list_of k)) vs)) l)
-      go true = (refl, refl)
-      go false = (refl, refl)
-
-pub planned : (k : Layout) (r : Plan) → start_of k ≡ 16 → r.places ≡ padded (list_of k) → r.count ≡ length (list_of k) → places_in r ≡ list_of k
-    → length (parts_in r) ≡ r.many → r.many ≤ 5 → length (list_of k) ≤ most → 8 * end_in 2 (parts_in r) ≡ bit_after k → bit_after k ≤ 2048 → T (cut 2 (list_of k) (parts_in r))
-    → Plans k r
-planned k r a p c l m o f e s t = record {
-  list = l;
-  count = c;
-  ends = e;
-  sound = record {
-    count = ap length l ∙ sym c;
-    many = m;
-    few = omega arith;
-    room = o;
-    short = omega arith;
-    padded = p ∙ ap padded (sym l);
-    narrow = λ i. rw l (width_small k i);
-    joined = rw (l, e, ← a) (lists-joined k);
-    cut = rw l t;
-  };
-}
+      ap (λ (ps : List Span). stores l ps (take i (values_of k vs))) (take_all i (list_of k) (omega arith))
+      ∙ ap (stores l (list_of k)) (take_all i (values_of k vs) (omega (arith, f.0)))

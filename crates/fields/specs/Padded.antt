@@ -1,8 +1,8 @@
--- An annex: places and values as the code holds them: as many as the longest list of a kind of ticket has, with nothing after the list's own. Assumes nothing.
+-- An annex: values as the code holds them: as many as the longest list of a kind of ticket has, with nothing after the list's own. Assumes nothing.
 use Rattle.std.specs.Prelude.{ℕ, ◌-◌, Bool, List, ◌++◌, leb, length, get_or, replicate}
 use Rattle.rules.specs.First.{all}
 use Rattle.fields.specs.declared.Span.{Span}
-use Rattle.fields.specs.Lists.{span, nth}
+use Rattle.fields.specs.Lists.{nth}
 use Rattle.fields.specs.Fields.{limit_of}
 
 abbrev pub most : ℕ  -- the fields of the longest list, and the bytes that they take
@@ -10,9 +10,6 @@ most = 25
 
 abbrev pub most_bytes : ℕ
 most_bytes = 27
-
-abbrev pub padded : List Span → List Span  -- places of no width after the last
-padded ps = ps ++ replicate (most - length ps) (span 0 0)
 
 abbrev pub held : List ℕ → List ℕ  -- zeros after the last value
 held vs = vs ++ replicate (most - length vs) 0

@@ -10,7 +10,7 @@ use Rattle.image.specs.Verdict.{verdict}
 use Rattle.image.specs.Check.{shape_of, checked_by, check_of}
 use Rattle.image.specs.Shape.{Shaped}
 use Rattle.image.specs.declared.Shape.{Shape}
-use Rattle.image.specs.declared.Checked.TheVariants.{Accepted, Refused}
+use Rattle.image.specs.Answer.{Accepted, Refused}
 use Rattle.image.proofs.Exact as exact
 use Rattle.image.proofs.Exact.{accepts}
 use Rattle.image.proofs.Shapes.{shaped}

@@ -14,8 +14,7 @@ use Rattle.image.specs.Verdict.{broken_at, shares_at, judged, verdict}
 use Rattle.image.specs.Answer.{number_of, entry_of, values_of}
 use Rattle.image.specs.Check.{shape_of, checked_by, check_of}
 use Rattle.image.specs.Obeys.{Obeys, Says}
-use Rattle.image.specs.declared.Checked.{Checked}
-use Rattle.image.specs.declared.Checked.TheVariants.{Accepted, Refused}
+use Rattle.image.specs.Answer.{Checked, Accepted, Refused}
 use Rattle.image.proofs.Exact.{exact, accepted-exactly}
 
 -- the number and entry of the check's answer are the verdict's

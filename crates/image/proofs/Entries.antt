@@ -46,10 +46,13 @@ module _ (c : List ℕ) (fits : e# c ≤ S c - 3) (most : S c ≤ 255) where
     pass-skip = first.pass-skip (tested c fits) (element c) w
 
     module _ (v : is_product c k ≡ true) {r : ℕ} (e : r ≡ last_left n (walk (element c) (S c) k n)) where
-      pub pass-stop : get_or seen (last_told r) 0 ≢ 0 → Unsound c k
-      pass-stop = first.pass-stop (tested c fits) (element c) w most v e
+      pub pass-none : r ≡ 0 → Unsound c k
+      pass-none = first.pass-none (tested c fits) (element c) w most v e
 
-      pub pass-take : get_or seen (last_told r) 0 ≡ 0 → Passes c k n r × Pass c (k + 1) (left_told r) (set seen (last_told r) 1)
+      pub pass-met : r ≢ 0 → get_or seen (last_told r) 0 ≢ 0 → Unsound c k
+      pass-met = first.pass-met (tested c fits) (element c) w most v e
+
+      pub pass-take : r ≢ 0 → get_or seen (last_told r) 0 ≡ 0 → Passes c k n r × Pass c (k + 1) (left_told r) (set seen (last_told r) 1)
       pass-take = first.pass-take (tested c fits) (element c) w most v e
 
     -- after the last entry: none is broken, and none shares

@@ -16,9 +16,7 @@ use Rattle.image.specs.Facts.{Facts, Present}
 use Rattle.image.specs.Bounds.{Bounds}
 use Rattle.image.specs.Seen.{seen, seen_by}
 use Rattle.image.specs.Product.{product_at}
-use Rattle.image.specs.Found.{found_in, found_of, last_at, count_at}
-use Rattle.image.specs.declared.Found.{Found}
-use Rattle.image.specs.declared.Found.TheVariants.{There, Not}
+use Rattle.image.specs.Found.{Found, There, Not, found_in, found_of, last_at, count_at}
 use Rattle.image.proofs.Exact.{test-product, tested, accepts, facts_bounds}
 
 -- entry j of the accepted image c is a product, whose chain ends in sector l after n sectors; the element of l has its mark
@@ -87,6 +85,9 @@ module _ (c : List ℕ) (j : ℕ) where
           count-is = refl;
           mark-is = rw (← t.last-is) t.mark-is;
         }
+
+  pub finds_at : (verdict c).number ≡ 0 → is_product c j ≡ true → {l n : ℕ} → l ≡ last_of (sectors c j) → n ≡ length (sectors c j) → Finds c j l n
+  finds_at z e p q = rw (p, q) (known z e)
 
   pub finds : {r : Found} {l n : ℕ} → r ≡ found_of c j → r ≡ There l n → Finds c j l n
   unfolding found_of seen

@@ -12,6 +12,7 @@ pub mod Accepted
 pub mod First
 pub mod Same
 pub mod Places
+pub mod Products
 pub mod Stays
 pub mod Founds
 pub mod Asked

@@ -14,7 +14,7 @@ use Rattle.fields.proofs.Joined.{place-fits}
 use Rattle.fields.proofs.Laws.{length_fields, get_or-fields}
 use Rattle.chains.specs.Chain.{Sector}
 use Rattle.chains.specs.Packed.{Inside, element_in}
-use Rattle.chains.specs.declared.Table.{Table}
+use Rattle.chains.specs.declared.Place.{Place}
 use Rattle.chains.proofs.Laws.{chain-short}
 use Rattle.image.specs.Image.{S, sector_at, entry_at, element, sectors, product}
 use Rattle.image.specs.Facts.{Present}
@@ -55,10 +55,10 @@ module _ {c : List ℕ} {g : Shape} (s : Shaped c g) where
   entry_in_lem j h = let b = s.in_bounds in omega (arith, s.directory-is, s.entries-is)
 
   -- SCT(i), a byte, is what the code reads by the shape's table
-  pub element-asks : {t : Table} → t ≡ table_of g → (i : ℕ) → Sector (S c) i → Inside c t × Sector t.sectors i
+  pub element-asks : {t : Place} → t ≡ table_of g → (i : ℕ) → Sector (S c) i → Inside c t × Sector t.sectors i
   element-asks q i k = rw q (inside s, rw s.sectors_is k)
 
-  pub element-read : {t : Table} → t ≡ table_of g → (i r : ℕ) → r ≡ element_in c t.first t.psi i → (r ≡ element c i) × (r < 256)
+  pub element-read : {t : Place} → t ≡ table_of g → (i r : ℕ) → r ≡ element_in c t.first t.psi i → (r ≡ element c i) × (r < 256)
   unfolding element
   element-read q i r e =
       let h = rw (q, s.table_is, s.psi-is) at e in

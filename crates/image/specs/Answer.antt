@@ -1,7 +1,11 @@
 -- What the answers of a check mean (document 01, "Numbers given back"). Assumes nothing.
 use Rattle.std.specs.Prelude.{List, [], ◌∷◌, ℕ}
-use Rattle.image.specs.declared.Checked.{Checked}
-use Rattle.image.specs.declared.Checked.TheVariants.{Accepted, Refused}
+use Rattle.image.specs.declared.Shape.{Shape}
+
+-- accepted, with the numbers by which everything in the image is found; or refused, with a number and an entry
+pub data Checked : Type 0 where
+  Accepted : Shape → Checked
+  Refused : ℕ → ℕ → Checked
 
 -- the paper's number and entry of an answer
 abbrev pub number_of : Checked → ℕ

@@ -1,7 +1,7 @@
 -- An annex: the shape of an image: the numbers by which everything in it is found. Assumes nothing.
 use Rattle.std.specs.Prelude.{◌≡◌, List, ℕ, ◌+◌, ◌-◌, ◌*◌}
 use Rattle.chains.specs.Psi.{Ψ}
-use Rattle.chains.specs.declared.Table.{Table}
+use Rattle.chains.specs.declared.Place.{Place}
 use Rattle.image.specs.Image.{copy, dataset, B, S, e#, SCTL, directory_at, table_at}
 use Rattle.image.specs.Bounds.{Bounds}
 use Rattle.image.specs.declared.Shape.{Shape}
@@ -20,7 +20,7 @@ pub record Shaped (c : List ℕ) (g : Shape) : Type 0 where
   pub in_bounds : Bounds c
 
 -- where the walk finds the chain table
-abbrev pub table_of : Shape → Table
+abbrev pub table_of : Shape → Place
 table_of g = record { first = 8 * g.table; psi = g.psi; sectors = g.sectors }
 
 -- the byte where sector i starts, and the one where entry j does ("The image", "Directory sector")

@@ -8,14 +8,16 @@ ghost use Rattle.chains.specs.Psi.{Ψ};
 ghost use Rattle.image.specs.Image.{S};
 ghost use Rattle.image.specs.Shape.{Shaped};
 ghost use Rattle.image.specs.Product.{element_at};
+ghost use Rattle.rules.specs.Refusals.{answered};
 ghost use Rattle.steps.specs.Step.{set_mark};
 ghost use Rattle.steps.specs.Steps.{answer, next};
 
-use chains::Table;
-use image::{Found, Shape};
-use rules::{Answer, BLOCKED, NO_MARK};
+use chains::Place;
+use image::Shape;
+use rules::{Reason, Refusal};
 
-// Stores the element of a chain's last sector, in the part of the image that is the directory sector in force.
+// Stores the element of a chain's last sector, in the part of the image that is the directory sector in force. The shape stands beside the image, which a
+// `Measured` would only look at.
 fn store_mark(image: &mut [u8], g: Shape, last: usize, mark: usize)
     requires shaped { Shaped image.old g }
     requires sector { Sector g.sectors last }
@@ -25,56 +27,33 @@ fn store_mark(image: &mut [u8], g: Shape, last: usize, mark: usize)
     let size = g.size;
     let from = g.directory;
     let to = from + size;
-    let table = Table {
+    let table = Place {
         first: 16 + 40 * g.entries,
         psi: g.psi,
         sectors: g.sectors,
     };
-    chains::put_element(&mut image[from..to], table, last, g.sectors - mark)
+    table.put(&mut image[from..to], last, g.sectors - mark)
 }
 
-// Marks a product's chain: 1 for used, 2 for blocked. Refused: the image's own numbers, 20, 28, 27.
-pub fn mark(image: &mut [u8], entry: usize, mark: usize) -> Answer
-    ensures { (result ≡ answer image.old (set_mark entry mark)) × (image.new ≡ next image.old (set_mark entry mark)) }
+// Marks a product's chain: 1 for used, 2 for blocked. Refused: the image's own numbers, 20, 28, 27. Any number may be given, and 28 is promised for those that
+// mean nothing: a narrower type asks more of callers.
+pub fn mark(image: &mut [u8], entry: usize, mark: usize) -> Result<(), Refusal>
+    ensures { (answered result ≡ answer image.old (set_mark entry mark)) × (image.new ≡ next image.old (set_mark entry mark)) }
 {
-    match verdict::find(image, entry) {
-        Found::There(last, _) => {
-            if mark < 1 {
-                return Answer {
-                    number: NO_MARK,
-                    entry: entry,
-                };
-            }
-            if 2 < mark {
-                return Answer {
-                    number: NO_MARK,
-                    entry: entry,
-                };
-            }
-            let g = verdict::shape_of(image);
-            let link = image::element_of(image, g, last);
-            // a mark that is there already is not stored again
-            if link == g.sectors - mark {
-                return Answer {
-                    number: 0,
-                    entry: 0,
-                };
-            }
-            if link == g.sectors - 2 {
-                return Answer {
-                    number: BLOCKED,
-                    entry: entry,
-                };
-            }
-            store_mark(image, g, last, mark);
-            Answer {
-                number: 0,
-                entry: 0,
-            }
-        }
-        Found::Not(n, e) => Answer {
-            number: n,
-            entry: e,
-        },
+    let found = verdict::product(image, entry)?;
+    if mark < 1 || 2 < mark {
+        return Err(Reason::NoMark.at(entry));
     }
+    let last = found.chain.last;
+    let link = found.card.element(last);
+    let shape = found.card.shape;
+    // by the numbers that the table holds, of which the mark asked for is one; a mark that is there already is not stored again
+    if link == shape.sectors - mark {
+        return Ok(());
+    }
+    if link == shape.sectors - 2 {
+        return Err(Reason::Blocked.at(entry));
+    }
+    store_mark(image, shape, last, mark);
+    Ok(())
 }

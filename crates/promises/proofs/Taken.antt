@@ -16,7 +16,7 @@ use Rattle.shell.specs.declared.Shell.{Shell}
 use Rattle.shell.proofs.Round as shell
 use Rattle.shell.proofs.Words.{chd-once}
 use Rattle.directory.proofs.Round as directory
-use Rattle.table.proofs.Places.{drop_zeros}
+use Rattle.std.proofs.lemmas.List.{drop-replicate}
 use Rattle.table.proofs.Round as table
 use Rattle.ticket.specs.Kind.{form_in}
 use Rattle.ticket.proofs.HeaderRound as header
@@ -69,7 +69,7 @@ demand2 = record {
   chain_is = λ c j o v. let f = obeys_facts c o in (chain_of c f v, (λ ss m d. chain_only c f v d), product-size c f v);
   chain_read = λ c j z.
       let r = values.chain_read c j z in
-      (r.0, r.1, r.2 ∙ ap (λ (l : List ℕ). sectors c j ++ l) (drop_zeros (length (sectors c j)) 252));
+      (r.0, r.1, r.2 ∙ ap (λ (l : List ℕ). sectors c j ++ l) (drop-replicate {X = ℕ} (length (sectors c j)) 252 0));
   ticket_read = values.ticket_read;
   kinds = kinds_are;
   kind_lists = (refl, refl, refl, refl);

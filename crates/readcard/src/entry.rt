@@ -1,77 +1,45 @@
 // Reading one entry, and its chain.
 ghost use Rattle.std.specs.Prelude.{◌≡◌, ◌≤◌, length};
 ghost use Rattle.image.specs.Image.{sectors};
-ghost use Rattle.image.specs.Shape.{Shaped};
-ghost use Rattle.image.specs.Facts.{Present};
 ghost use Rattle.reads.specs.Asked.{over};
 ghost use Rattle.reads.specs.Entry.{read_entry, read_chain};
+ghost use Rattle.reads.specs.Given.{entry_given, chain_given};
 
 use fields::Layout;
-use image::{Found, Shape};
-use reads::{ChainRead, EntryRead};
+use image::Product;
+use reads::ChainSectors;
+use rules::Refusal;
 
-pub fn read_entry(image: &[u8], entry: usize) -> EntryRead
-    ensures { result ≡ read_entry image.now entry }
+pub fn read_entry(image: &[u8], entry: usize) -> Result<[u64; 7], Refusal>
+    ensures { entry_given result ≡ read_entry image.now entry }
 {
-    let mut v = [0u64; 7];
-    match verdict::find(image, entry) {
-        Found::There(_, _) => {
-            let g = verdict::shape_of(image);
-            let at = image::entry_at(g, entry);
-            fields::read(&image[at..], Layout::Entry, &mut v);
-            EntryRead {
-                number: 0,
-                entry: 0,
-                values: v,
-            }
-        }
-        Found::Not(n, e) => EntryRead {
-            number: n,
-            entry: e,
-            values: v,
-        },
+    let found = verdict::product(image, entry)?;
+    let at = found.card.entry_at(entry);
+    Ok(fields::unpacked::<7>(Layout::Entry, &image[at..]))
+}
+
+// Lists the sectors of a product's chain at the front of `out`. To a narrower type there is no `From`; the `as` is bounded, since a sector is a byte.
+fn list_sectors(found: &Product, out: &mut [u8])
+    requires { found.now.chain.count ≤ length out.old }
+    ensures { out.new ≡ over (sectors found.now.card.image.now found.now.entry) out.old }
+{
+    let t = found.card.table();
+    let mut i = found.entry;
+    for sector in &mut out[..found.chain.count] {
+        *sector = i as u8;
+        i = t.element(i);
     }
 }
 
-// Lists the sectors of entry j's chain, `count` of them, at the front of `out`.
-fn list_sectors(image: &[u8], g: Shape, j: usize, count: usize, out: &mut [u8])
-    requires shaped { Shaped image.now g }
-    requires present { Present image.now j }
-    requires count_value { (count ≡ length (sectors image.now j)) × (count ≤ length out.old) }
-    ensures { out.new ≡ over (sectors image.now j) out.old }
+pub fn read_chain(image: &[u8], entry: usize) -> Result<ChainSectors, Refusal>
+    ensures { chain_given result ≡ read_chain image.now entry }
 {
-    let t = image::table_of(g);
-    let mut i = j;
-    let mut k: usize = 0;
-    while k < count {
-        out[k] = i as u8;
-        i = chains::element(image, t, i);
-        k += 1;
-    }
-}
-
-pub fn read_chain(image: &[u8], entry: usize) -> ChainRead
-    ensures { result ≡ read_chain image.now entry }
-{
-    let mut a = [0u8; 252];
-    match verdict::find(image, entry) {
-        Found::There(last, count) => {
-            let g = verdict::shape_of(image);
-            list_sectors(image, g, entry, count, &mut a);
-            ChainRead {
-                number: 0,
-                entry: 0,
-                mark: image::mark_of(image, g, last) as usize,
-                count: count,
-                sectors: a,
-            }
-        }
-        Found::Not(n, e) => ChainRead {
-            number: n,
-            entry: e,
-            mark: 0,
-            count: 0,
-            sectors: a,
-        },
-    }
+    let found = verdict::product(image, entry)?;
+    let mut sectors = [0u8; 252];
+    list_sectors(&found, &mut sectors);
+    Ok(ChainSectors {
+        mark: found.mark(),
+        count: found.chain.count,
+        sectors,
+    })
 }

@@ -1,5 +1,4 @@
-// Reading the card: its shell, its directory and its chain table, and in `entry` one entry and its chain. Each call checks the image itself;
-// refused, it gives the number, the entry, and zeros in all else.
+// Reading the card: its shell, its directory and its chain table, and in `entry` one entry and its chain. Each call checks the image itself.
 #![tactic(auto)]
 
 mod entry;
@@ -7,34 +6,23 @@ mod entry;
 ghost use Rattle.std.specs.Prelude.{◌≡◌, ◌++◌, ◌+◌, ◌-◌, ◌≤◌, length, drop};
 ghost use Rattle.fields.specs.Fields.{fields};
 ghost use Rattle.fields.specs.Lists as lists;
-ghost use Rattle.image.specs.Shape.{Shaped};
 ghost use Rattle.reads.specs.Asked.{over};
 ghost use Rattle.reads.specs.Card.{elements, read_shell, read_directory, read_table};
+ghost use Rattle.reads.specs.Given.{shell_given, directory_given, table_given};
 
 pub use entry::{read_chain, read_entry};
 use fields::Layout;
-use image::{Checked, Shape};
-use reads::{DirectoryRead, ShellRead, TableRead};
+use image::Measured;
+use rules::Refusal;
+use table::Table;
 
-pub fn read_shell(image: &[u8]) -> ShellRead
-    ensures { result ≡ read_shell image.now }
+pub fn read_shell(image: &[u8]) -> Result<[u64; 16], Refusal>
+    ensures { shell_given result ≡ read_shell image.now }
 {
-    match verdict::check(image) {
-        Checked::Accepted(_) => {
-            let shell = shell::shell_in(&image[4..]);
-            let values = shell.values;
-            ShellRead {
-                number: 0,
-                entry: 0,
-                values: values,
-            }
-        }
-        Checked::Refused(n, e) => ShellRead {
-            number: n,
-            entry: e,
-            values: [0; 16],
-        },
-    }
+    verdict::check(image)?;
+    let shell = shell::shell_in(&image[4..]);
+    let values = shell.values;
+    Ok(values)
 }
 
 // The directory's three leading values, from byte `first` on, and its four last, from byte `last` on.
@@ -48,57 +36,33 @@ fn directory_values(image: &[u8], first: usize, last: usize) -> [u64; 7]
     v
 }
 
-pub fn read_directory(image: &[u8]) -> DirectoryRead
-    ensures { result ≡ read_directory image.now }
+pub fn read_directory(image: &[u8]) -> Result<[u64; 7], Refusal>
+    ensures { directory_given result ≡ read_directory image.now }
 {
-    match verdict::check(image) {
-        Checked::Accepted(g) => DirectoryRead {
-            number: 0,
-            entry: 0,
-            values: directory_values(image, g.directory, g.table + g.bytes),
-        },
-        Checked::Refused(n, e) => DirectoryRead {
-            number: n,
-            entry: e,
-            values: [0; 7],
-        },
+    let g = verdict::check(image)?;
+    Ok(directory_values(image, g.directory, g.table + g.bytes))
+}
+
+// Lists the table's elements at the front of `out`. To a narrower type there is no `From`; the `as` is bounded, since an element has eight bits at most.
+fn list_elements(card: &Measured, out: &mut [u8])
+    requires { card.now.shape.sectors - 3 ≤ length out.old }
+    ensures { out.new ≡ over (elements card.now.image.now) out.old }
+{
+    // By `card.element` a list of elements of eight bits takes ten instructions an element.
+    let t = card.table();
+    for (k, element) in out[..card.shape.sectors - 3].iter_mut().enumerate() {
+        *element = t.element(k + 1) as u8;
     }
 }
 
-// Lists the table's elements at the front of `out`.
-fn list_elements(image: &[u8], g: Shape, out: &mut [u8])
-    requires shaped { Shaped image.now g }
-    requires sectors_in_bounds { g.sectors - 3 ≤ length out.old }
-    ensures { out.new ≡ over (elements image.now) out.old }
+pub fn read_table(image: &[u8]) -> Result<Table, Refusal>
+    ensures { table_given result ≡ read_table image.now }
 {
-    let t = image::table_of(g);
-    let n = g.sectors - 3;
-    let mut k: usize = 0;
-    while k < n {
-        out[k] = chains::element(image, t, k + 1) as u8;
-        k += 1;
-    }
-}
-
-pub fn read_table(image: &[u8]) -> TableRead
-    ensures { result ≡ read_table image.now }
-{
-    let mut a = [0u8; 252];
-    match verdict::check(image) {
-        Checked::Accepted(g) => {
-            list_elements(image, g, &mut a);
-            TableRead {
-                number: 0,
-                entry: 0,
-                count: g.sectors - 3,
-                elements: a,
-            }
-        }
-        Checked::Refused(n, e) => TableRead {
-            number: n,
-            entry: e,
-            count: 0,
-            elements: a,
-        },
-    }
+    let card = verdict::accepted(image)?;
+    let mut elements = [0u8; 252];
+    list_elements(&card, &mut elements);
+    Ok(Table {
+        count: card.shape.sectors - 3,
+        elements,
+    })
 }

@@ -18,7 +18,7 @@ use Rattle.image.specs.Seen.{seen_by, seen, judged_by, asked}
 use Rattle.image.specs.Check.{shape_of, check_of}
 use Rattle.image.specs.Found.{found_in, found_of}
 use Rattle.image.specs.declared.Shape.{Shape}
-use Rattle.image.specs.declared.Found.TheVariants as F
+use Rattle.image.specs.Found as F
 use Rattle.image.proofs.Accepted.{Open, accepted_open}
 use Rattle.image.proofs.Exact.{test-product}
 use Rattle.image.proofs.First.{sectors-head}

@@ -3,3 +3,4 @@ pub mod Asked
 pub mod Card
 pub mod Entry
 pub mod Ticket
+pub mod Given

@@ -1,7 +1,7 @@
 -- A product is copied sector by sector in chain order: after k sectors the buffer has the first k of them, and behind them what it had.
 -- Assumes nothing.
 use mathlib.Core.Path.{◌≡◌, refl, sym, ap, ◌∙◌}
-use mathlib.Core.List.{List, [], ◌∷◌, ◌++◌, append_assoc}
+use mathlib.Core.List.{List, [], ◌∷◌, ◌++◌, append_assoc, append-nil}
 use Prim.Native.Nat.{ℕ, zero, suc, ◌+◌, ◌-◌, ◌*◌, ◌≤◌, ◌<◌}
 use native.Mathlib.Nat.{zero-mul, suc-mul, mul-le-mul_right}
 use native.Mathlib.Numerals.{add-one}
@@ -27,11 +27,7 @@ joined-append c (i ∷ is) ks = rw (joined-append c is ks) (sym (append_assoc (s
 
 joined_one : (c : List ℕ) (i : ℕ) → joined c (i ∷ []) ≡ sector c i
 unfolding joined
-joined_one c i = nil (sector c i)
-  where
-    nil : (l : List ℕ) → l ++ [] ≡ l
-    nil [] = refl
-    nil (x ∷ xs) = ap {B = List ℕ} (λ l. x ∷ l) (nil xs)
+joined_one c i = append-nil (sector c i)
 
 -- one sector more
 pub joined-more : (c ss : List ℕ) (k : ℕ) → k < length ss → joined c (take (k + 1) ss) ≡ joined c (take k ss) ++ sector c (get_or ss k 0)

@@ -52,11 +52,11 @@ module _ (c : List ℕ) (j room : ℕ) where
         → fields (take (length c - sector_place g j) (drop (sector_place g j) c)) (list_of t) ≡ fields (product c j) (list_of t)
     start-fields {g} q t h = rw (from_is c (sector_place g j), sector-is q j) (fields-first k.known.there t h)
 
-    pub day-below : f.day < 2 ^ 14
-    day-below = rw k.sound-is (field_below _ 26 14 14 (omega arith))
+    pub day-below : f.stated.day < 2 ^ 14
+    day-below = rw k.stated-is (field_below _ 26 14 14 (omega arith))
 
-    pub blocks-below : f.blocks < 2 ^ 6
-    blocks-below = rw k.sound-is (field_below _ 0 6 6 (omega arith))
+    pub blocks-below : f.stated.blocks < 2 ^ 6
+    blocks-below = rw k.stated-is (field_below _ 0 6 6 (omega arith))
 
     -- what is read of the product
     abbrev ours : Fields
@@ -75,13 +75,13 @@ module _ (c : List ℕ) (j room : ℕ) where
     time-below = rw time-is (field_below _ _ _ 11 (omega (arith, (row_is f.kind).expiry_width)))
 
     -- the header that the checks have read
-    header_is : (f.blocks ∷ f.map ∷ f.revision ∷ []) ≡ fields (product c j) (list_of Header)
+    header_is : (f.stated.blocks ∷ f.stated.map ∷ f.stated.revision ∷ []) ≡ fields (product c j) (list_of Header)
     unfolding fields
-    header_is = rw k.sound-is
+    header_is = rw k.stated-is
 
     read_taken : told_of f ours ≡ held_ticket (read_ticket c j room)
     unfolding read_ticket product_at
-    read_taken = rw (header_is, time-is, k.number_zero, k.entry_zero, k.form-is, k.sound-is)
+    read_taken = rw (header_is, time-is, k.number_zero, k.entry_zero, k.form-is, k.stated-is, k.sectors-is, k.mark-is)
 
     -- ---- of the part of the image that starts where its first sector does
 
@@ -98,15 +98,15 @@ module _ (c : List ℕ) (j room : ℕ) where
             ∙ start-fields q (row_of f.kind).layout (omega (arith, (row_facts f.kind).ends)))
 
         -- what is asked where the answer is made
-        pub told-asks : (f.day < 2 ^ 32) × (v.time < 2 ^ 32)
+        pub told-asks : (f.stated.day < 2 ^ 32) × (v.time < 2 ^ 32)
         told-asks = let b = time-below in let d = day-below in (omega (arith, d), rw fields-are (omega (arith, b)))
 
         pub told-read : told_of f v ≡ held_ticket (read_ticket c j room)
         told-read = rw fields-are read_taken
 
-    pub fill-taken : {s x : ℕ} → s ≡ rest_of (row_of f.kind).layout → x ≡ 4 * f.blocks → filled 0 0 s x ≡ fill_of c j room
+    pub fill-taken : {s x : ℕ} → s ≡ rest_of (row_of f.kind).layout → x ≡ 4 * f.stated.blocks → filled 0 0 s x ≡ fill_of c j room
     unfolding fill_of product_at
-    fill-taken p q = rw (p, q, k.number_zero, k.entry_zero, k.form-is, k.sound-is)
+    fill-taken p q = rw (p, q, k.number_zero, k.entry_zero, k.form-is, k.stated-is)
 
   -- refused
   module _ {n e : ℕ} (s : Barred (ticket_refusal c j room) n e) where

@@ -46,6 +46,13 @@ means-holds (every n p) m = true-all n (λ i. holds (p i)) (λ i h. means-holds 
 pub false_means : (p : Claim) → holds p ≡ false → Means p → ⊥
 false_means p e m = true≢false (sym (means-holds p m) ∙ e)
 
+pub holds-not : (p : Claim) → (Means p → ⊥) → holds p ≡ false
+holds-not p h = go (holds p) refl
+  where
+    go : (b : Bool) → holds p ≡ b → b ≡ false
+    go true e = absurd (h (holds_means p e))
+    go false e = refl
+
 -- ---- a list of rules
 
 -- every rule has a number that is not 0

@@ -1,13 +1,24 @@
 -- What `first` gives back, exactly: 0 where every rule is kept, and n where the first that is not kept has the number n. Both follow
 -- from `found`, since no list keeps all its rules and fails one. Assumes nothing.
-use mathlib.Core.Path.{◌≡◌, refl, ap, subst, ◌∙◌}
+use mathlib.Core.Path.{◌≡◌, refl, sym, ap, subst, ◌∙◌}
 use mathlib.Core.Logic.{◌↔◌}
-use mathlib.Core.List.{List, ◌++◌}
+use mathlib.Core.List.{List, [], ◌∷◌, ◌++◌}
 use Prim.Native.Nat.{ℕ, zero, suc, ◌≤◌}
 use native.Mathlib.Omega.{arith}
-use Rattle.rules.specs.Claim.{Rule, Kept, Fails, Answers, against, taken}
+use Rattle.rules.specs.Claim.{Rule, Kept, Fails, here, later, Answers, against, taken}
 use Rattle.rules.specs.First.{first}
-use Rattle.rules.proofs.ClaimLaws.{Numbered, Found, none, one, found, kept_fails, fails_one, or_else, first-append}
+use Rattle.rules.proofs.ClaimLaws.{Numbered, Found, none, one, found, or_else, first-append, means-holds, holds-not}
+
+-- rules are judged one after the other: the first that is not kept gives its number, and none gives one where all are kept
+pub stops : {rs : List Rule} {n : ℕ} → Fails rs n → n ≡ first rs
+unfolding first
+stops (here {r = r} b) = rw (holds-not r.claim b)
+stops (later {r = r} m f) = rw (means-holds r.claim m) (stops f)
+
+pub passes : (rs : List Rule) → Kept rs → 0 ≡ first rs
+unfolding first
+passes [] k = refl
+passes (r ∷ rs) k = rw (means-holds r.claim k.0) (passes rs k.1)
 
 module _ (rs : List Rule) (h : Numbered rs) where
   pub kept-of-first : first rs ≡ 0 → Kept rs
@@ -18,11 +29,7 @@ module _ (rs : List Rule) (h : Numbered rs) where
       go n e (one a f) = absurd (omega arith)
 
   pub first-of-kept : Kept rs → first rs ≡ 0
-  first-of-kept k = go (found rs h)
-    where
-      go : {n : ℕ} → Found rs n → n ≡ 0
-      go (none k') = refl
-      go (one a f) = absurd (kept_fails f k)
+  first-of-kept k = sym (passes rs k)
 
   -- rules that are kept leave the word to those after them
   pub first-after : (ss : List Rule) → Kept rs → first (rs ++ ss) ≡ first ss
@@ -36,11 +43,7 @@ module _ (rs : List Rule) (h : Numbered rs) where
       go m e (one a f) = subst (λ (x : ℕ). Fails rs x) e f
 
   pub first-of-fails : (n : ℕ) → Fails rs n → first rs ≡ n
-  first-of-fails n f = go (found rs h)
-    where
-      go : {m : ℕ} → Found rs m → m ≡ n
-      go (none k) = absurd (kept_fails f k)
-      go (one a g) = fails_one g f
+  first-of-fails n f = sym (stops f)
 
   pub taken-exactly : (first rs ≡ 0) ↔ Kept rs
   taken-exactly = (kept-of-first, first-of-kept)

@@ -4,7 +4,8 @@ use mathlib.Core.Bool.{Bool, true, false, true≢false}
 use Prim.Native.Nat.{ℕ, zero, suc, ◌+◌, ◌≤◌, ◌<◌}
 use native.Mathlib.Omega.{arith}
 use native.Mathlib.Decide.{dec_lt}
-use Rattle.rules.specs.Lowest.{or_here, lowest}
+use Rattle.std.specs.Prelude.{Some}
+use Rattle.rules.specs.Lowest.{or_here, lowest, some_of}
 
 pub data Found-lowest (n : ℕ) (t : ℕ → Bool) : ℕ → Type 0 where
   nowhere : ((k : ℕ) → 1 ≤ k → k ≤ n → t k ≡ true → ⊥) → Found-lowest n t 0
@@ -55,3 +56,8 @@ module _ (n : ℕ) (t : ℕ → Bool) where
       go (nowhere f) z true e = absurd (f k a b e)
       go (somewhere l u p f) z true e = absurd (omega arith)
       go w z false e = refl
+
+-- a number that is not 0 is some
+pub some-is : (n m : ℕ) → 1 ≤ n → n ≡ m → Some n ≡ some_of m
+some-is zero m h e = absurd (omega arith)
+some-is (suc n) m h e = rw (← e) refl

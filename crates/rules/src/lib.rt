@@ -1,63 +1,93 @@
-// The numbers that a refusal gives (document 01, "Numbers given back"), each by its name. 0 is success.
+// Why a call is refused: each reason by its name, with the number that it gives (document 01, "Numbers given back"). 0 is success.
 #![tactic(auto)]
 
 ghost use Rattle.std.specs.Prelude.{◌≡◌};
+ghost use Rattle.rules.specs.Reasons.{number, said};
 ghost use Rattle.rules.specs.First.{if_kept};
+ghost use Rattle.rules.specs.Answer.{says};
+ghost use Rattle.rules.specs.Refusals.{answered, at_none};
 
-pub const WRONG_LENGTH: usize = 1;
+// The reasons by their names, in the order of their numbers. 90 and 91 are numbers of our own: what `touched` compares are images of other shapes, or its
+// flags are not one for each entry.
+#[derive(Clone, Copy, PartialEq, Eq, Debug)]
+pub enum Reason {
+    WrongLength = 1,
+    WrongVersion = 2,
+    WrongCopy = 3,
+    NoShell = 4,
+    WrongShell = 5,
+    WrongSize = 6,
+    WrongSecr = 7,
+    WrongDigit = 8,
+    WrongTable = 9,
+    BrokenChain = 10,
+    SharedSector = 11,
+    WrongCheckDigit = 12,
+    NoProduct = 20,
+    WrongRoom = 21,
+    OtherKind = 22,
+    WrongExtent = 23,
+    NoField = 25,
+    TooLarge = 26,
+    Blocked = 27,
+    NoMark = 28,
+    NoDate = 29,
+    NoStamp = 30,
+    OtherShape = 90,
+    WrongFlags = 91,
+}
 
-pub const WRONG_VERSION: usize = 2;
+impl Reason {
+    // The number that a refusal gives: the enum's own, which `as` alone tells.
+    pub fn number(self) -> usize
+        ensures { result ≡ number self }
+    {
+        self as usize
+    }
 
-pub const WRONG_COPY: usize = 3;
+    // The refusal for it that names an entry.
+    pub fn at(self, entry: usize) -> Refusal
+        ensures { result ≡ record { reason = self; entry = entry } }
+    {
+        Refusal {
+            reason: self,
+            entry,
+        }
+    }
+}
 
-pub const NO_SHELL: usize = 4;
-
-pub const WRONG_SHELL: usize = 5;
-
-pub const WRONG_SIZE: usize = 6;
-
-pub const WRONG_SECR: usize = 7;
-
-pub const WRONG_DIGIT: usize = 8;
-
-pub const WRONG_TABLE: usize = 9;
-
-pub const BROKEN_CHAIN: usize = 10;
-
-pub const SHARED_SECTOR: usize = 11;
-
-pub const WRONG_CHECK_DIGIT: usize = 12;
-
-pub const NO_PRODUCT: usize = 20;
-
-pub const WRONG_ROOM: usize = 21;
-
-pub const OTHER_KIND: usize = 22;
-
-pub const WRONG_EXTENT: usize = 23;
-
-pub const NO_FIELD: usize = 25;
-
-pub const TOO_LARGE: usize = 26;
-
-pub const BLOCKED: usize = 27;
-
-pub const NO_MARK: usize = 28;
-
-pub const NO_DATE: usize = 29;
-
-pub const NO_STAMP: usize = 30;
-
-// Numbers of our own: what `touched` compares are images of other shapes, or its flags are not one for each entry.
-pub const OTHER_SHAPE: usize = 90;
-
-pub const WRONG_FLAGS: usize = 91;
-
-// The number of a rule that is not kept, or that of the rules after it.
-pub fn need(number: usize, kept: bool, rest: usize) -> usize
-    ensures { result ≡ if_kept kept rest number }
+// The refusal of a rule that is not kept.
+pub fn need(reason: Reason, kept: bool) -> Result<(), Reason>
+    ensures { said result ≡ if_kept kept 0 (number reason) }
 {
-    if kept { rest } else { number }
+    if kept { Ok(()) } else { Err(reason) }
+}
+
+// The number that a call gives back: 0, or that of its reason.
+pub fn said<T>(done: &Result<T, Reason>) -> usize
+    ensures { result ≡ said done.now }
+{
+    match done {
+        Ok(_) => 0,
+        Err(reason) => reason.number(),
+    }
+}
+
+// Why a call was refused, and the entry that it names: 0 where it names none. A number and no `Option`: document 01 gives "an entry, 0 where none is named",
+// and each contract, C and the desk say it so, which an `Option` would be turned back to at each use.
+#[derive(Clone, Copy, PartialEq, Eq, Debug)]
+pub struct Refusal {
+    pub reason: Reason,
+    pub entry: usize,
+}
+
+// A refusal that names no entry.
+impl From<Reason> for Refusal {
+    ghost from_gives = { λ r s. s ≡ at_none r };
+
+    fn from(reason: Reason) -> Refusal {
+        Refusal { reason, entry: 0 }
+    }
 }
 
 // What a call answers that gives no other value: a number and an entry, 0 and 0 for success. It is C's card_answer.
@@ -66,4 +96,31 @@ pub fn need(number: usize, kept: bool, rest: usize) -> usize
 pub struct Answer {
     pub number: usize,
     pub entry: usize,
+}
+
+impl<T: Drop> From<Result<T, Refusal>> for Answer {
+    ghost from_gives = { λ r a. a ≡ answered r };
+
+    fn from(done: Result<T, Refusal>) -> Answer {
+        match done {
+            Ok(_) => Answer {
+                number: 0,
+                entry: 0,
+            },
+            Err(refusal) => Answer {
+                number: refusal.reason.number(),
+                entry: refusal.entry,
+            },
+        }
+    }
+}
+
+// A refusal that names no entry.
+impl From<Result<(), Reason>> for Answer {
+    ghost from_gives = { λ r a. a ≡ says (said r) 0 };
+
+    fn from(done: Result<(), Reason>) -> Answer {
+        let number = said(&done);
+        Answer { number, entry: 0 }
+    }
 }

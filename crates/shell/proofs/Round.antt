@@ -23,7 +23,7 @@ use Rattle.shell.specs.declared.Shell.{Shell}
 use Rattle.shell.specs.Shell.{values_in, dataset_of, padding, SECR, before_SECR, encode_rules, body_of, secr_bytes, encoded_shell}
 use Rattle.shell.specs.Encode.{decode_of, encode_number, encode_in}
 use Rattle.shell.proofs.Rules.{numbered, taken}
-use Rattle.shell.proofs.Dataset.{length_body}
+use Rattle.shell.proofs.Dataset.{length_body, crc_small}
 
 -- ---- exactly, in order, and one answer
 
@@ -37,10 +37,6 @@ unfolding encode_number
 encode_exactly vs room = answers-exactly (encode_rules vs room) (numbered vs room)
 
 -- ---- the dataset
-
-crc_small : (l : List ℕ) → crc l < 65536
-unfolding crc
-crc_small l = omega arith
 
 bit_body : (vs : List ℕ) (i : ℕ) → 160 ≤ i → bit (body_of vs) i ≡ 0
 unfolding body_of

@@ -2,21 +2,25 @@
 -- sixteen others. Assumes nothing.
 use mathlib.Core.Path.{◌≡◌, refl, sym, ap, ap₂, subst, ◌∙◌}
 use mathlib.Core.Logic.{◌↔◌, ◌⊎◌, inl, inr, ⊎_elim}
+use mathlib.Core.Bool.{Bool, true}
 use mathlib.Core.List.{List, [], ◌∷◌, ◌++◌}
-use Prim.Native.Nat.{ℕ, ◌+◌, ◌*◌, ◌%◌, ◌^◌, ◌≤◌, ◌<◌}
+use Prim.Native.Nat.{ℕ, ◌+◌, ◌*◌, ◌/◌, ◌%◌, ◌^◌, ◌≤◌, ◌<◌}
 use native.Mathlib.Omega.{arith}
 use lib.ListN.{length, set}
 use lib.Seq.{get_or-set_same, get_or-set_other}
 use Rattle.rules.specs.Claim.{Means, Kept, Fails, here, later}
-use Rattle.rules.specs.First.{first}
-use Rattle.rules.proofs.ClaimLaws.{Found, none, one, found, fails-after, kept-both}
-use Rattle.rules.proofs.First.{first-of-kept, first-of-fails}
+use Rattle.rules.specs.First.{holds, first}
+use Rattle.rules.proofs.ClaimLaws.{holds_means, Found, none, one, found, fails-after, kept-both}
+use Rattle.rules.proofs.First.{stops, passes}
 use Rattle.digits.specs.Digits.{decimal, digits_of, luhn}
 use Rattle.digits.proofs.Bytewise.{luhn-append, luhn-short}
 use Rattle.digits.proofs.Joined.{digits_join, widened}
 use Rattle.digits.proofs.Luhn.{Decimals, decimals_join, decimals_digits, once}
 use Rattle.shell.specs.Shell.{IIN, OID, ISSN, CHD, ISRN, digit_rules, check_digit_rule}
 use Rattle.shell.specs.Encode.{isrn_rules, word_rules}
+
+pub digit_tested : (v i : ℕ) {r : Bool} → r ≡ holds (decimal 16 v) → r ≡ true → i < 16 → v / 2 ^ (4 * i) % 16 ≤ 9
+digit_tested v i e t h = holds_means (decimal 16 v) (sym e ∙ t) i h
 
 pub one_number : (vs : List ℕ) → OID vs < 2 ^ 16 → ISSN vs < 2 ^ 28 → CHD vs < 2 ^ 4
     → ISRN vs ≡ digits_of 18 ((IIN vs * 2 ^ 16 + OID vs) * 2 ^ 32 + (ISSN vs * 2 ^ 4 + CHD vs))
@@ -74,13 +78,9 @@ module _ (vs : List ℕ) where
     pub by-words : first (word_rules high low) ≡ first (isrn_rules vs)
     by-words = go (found (word_rules high low) (omega arith))
       where
-        stops : {n : ℕ} → Fails (isrn_rules vs) n → n ≡ first (isrn_rules vs)
-        stops {n} f = sym (first-of-fails (isrn_rules vs) (omega arith) n f)
-
         go : {n : ℕ} → Found (word_rules high low) n → n ≡ first (isrn_rules vs)
         go (none k) =
-            sym (first-of-kept (isrn_rules vs) (omega arith)
-            (kept-both (digit_rules vs) (check_digit_rule vs ∷ []) (words-decimal k.0 k.1.0) (rw summed k.1.1.0, tt)))
+            passes (isrn_rules vs) (kept-both (digit_rules vs) (check_digit_rule vs ∷ []) (words-decimal k.0 k.1.0) (rw summed k.1.1.0, tt))
         go (one a (here x)) = stops (not-kept (λ k. x (decimal-words k).0))
         go (one a (later mh (here x))) = stops (not-kept (λ k. x (decimal-words k).1))
         go (one a (later mh (later ml (here x)))) =

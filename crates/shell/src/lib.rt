@@ -3,13 +3,13 @@
 
 ghost use Rattle.std.specs.Prelude.{◌≡◌, ◌-◌, ◌*◌, ◌≤◌, ◌<◌, length};
 ghost use Rattle.rules.specs.First.{first};
-ghost use Rattle.rules.specs.Answer.{says};
-ghost use Rattle.shell.specs.Shell.{dataset_of, form_rules, body_of, encoded_shell};
-ghost use Rattle.shell.specs.Encode.{word_rules, decode_of, encode_number, encode_in};
+ghost use Rattle.rules.specs.Reasons.{said};
+ghost use Rattle.shell.specs.Shell.{ShellLength, dataset_of, form_rules, body_of, encoded_shell};
+ghost use Rattle.shell.specs.Encode.{Fitting, isrn_rules, word_rules, decode_of, encode_number, encode_in};
 
 use digits::{decimal, ends_right};
 use fields::Layout;
-use rules::{Answer, TOO_LARGE, WRONG_CHECK_DIGIT, WRONG_DIGIT, WRONG_ROOM, WRONG_SHELL, need};
+use rules::Reason;
 
 // The sixteen values in the order of document 01.
 #[repr(C)]
@@ -18,7 +18,7 @@ pub struct Shell {
     pub values: [u64; 16],
 }
 
-// Where some of them stand.
+// Where some of them stand. Numbers and no enum: each is an index, here and in the list of places.
 pub const SHELL_LENGTH: usize = 0;
 
 pub const SHELL_BIT_MAP: usize = 1;
@@ -39,34 +39,31 @@ pub const ENTRY_COUNT: usize = 14;
 
 pub const TABLE_LENGTH: usize = 15;
 
-// Number 5, of ShellBitMap and the bytes of the dataset; 0 where its rules are kept.
-pub fn form(map: u64, bytes: usize) -> usize
-    ensures { result ≡ first (form_rules map bytes) }
+// Whether ShellBitMap and the bytes of the dataset are as they must be.
+#[tactic(auto, using(std::proofs::lemmas::Bool::Decides::nat_tests), unfolding(rules::specs::First::first))]
+pub fn form(map: u64, bytes: usize) -> Result<(), Reason>
+    ensures { said result ≡ first (form_rules map bytes) }
 {
-    if map != 0 {
-        return WRONG_SHELL;
+    if map != 0 || bytes < 22 {
+        return Err(Reason::WrongShell);
     }
-    if bytes < 22 {
-        return WRONG_SHELL;
-    }
-    0
+    Ok(())
 }
 
-// 8 and 12 of the ISRN, of which `high` is the first two digits and `low` the sixteen others; 0 where their rules are kept.
-pub fn judge_isrn(high: u64, low: u64) -> usize
+// Whether the digits of the ISRN are decimal and the last is their check digit: `high` is the first two, and `low` the sixteen others. No struct
+// of both: each of two callers would make one for this one call.
+#[tactic(auto, using(std::proofs::lemmas::Bool::Decides::nat_tests, crate::proofs::Words::digit_tested), unfolding(rules::specs::First::first))]
+pub fn judge_isrn(high: u64, low: u64) -> Result<(), Reason>
     requires { high < 256 }
-    ensures { result ≡ first (word_rules high low) }
+    ensures { said result ≡ first (word_rules high low) }
 {
-    if !decimal(high) {
-        return WRONG_DIGIT;
-    }
-    if !decimal(low) {
-        return WRONG_DIGIT;
+    if !decimal(high) || !decimal(low) {
+        return Err(Reason::WrongDigit);
     }
     if !ends_right(high, low) {
-        return WRONG_CHECK_DIGIT;
+        return Err(Reason::WrongCheckDigit);
     }
-    0
+    Ok(())
 }
 
 // The values of the shell that starts with the slice.
@@ -74,9 +71,8 @@ pub fn shell_in(s: &[u8]) -> Shell
     requires { 160 ≤ 8 * length s.now }
     ensures { result ≡ decode_of s.now }
 {
-    let mut values = [0u64; 16];
-    fields::read(s, Layout::Shell, &mut values);
-    Shell { values: values }
+    let values = fields::unpacked::<16>(Layout::Shell, s);
+    Shell { values }
 }
 
 // The values that the twenty bytes hold.
@@ -86,64 +82,86 @@ pub fn decode(bytes: [u8; 20]) -> Shell
     shell_in(&bytes)
 }
 
-// The first of 26, 5, 8, 12 and 21 that the values and the room for them do not keep; 0 where they keep all.
-fn judge(v: &[u64], room: usize) -> usize
-    requires { length v.now ≡ 16 }
-    ensures { result ≡ encode_number v.now room }
-{
-    if !fields::all_fit(Layout::Shell, v) {
-        return TOO_LARGE;
+impl Shell {
+    // The bytes of the dataset: ShellLength counts blocks of four. From `u64` there is no `From`: it is bounded by the contract.
+    fn dataset(&self) -> usize
+        requires { ShellLength self.now.values < 64 }
+        ensures { result ≡ dataset_of self.now.values }
+    {
+        4 * (self.values[SHELL_LENGTH] as usize)
     }
-    let bytes = 4 * (v[SHELL_LENGTH] as usize);
-    let shape = form(v[SHELL_BIT_MAP], bytes);
-    if shape != 0 {
-        return shape;
+
+    // The ISRN in words: its first two digits, and the sixteen others, as `judge_isrn` takes them.
+    fn isrn(&self) -> (u64, u64)
+        requires { Fitting self.now.values }
+        ensures { (result.0 < 256) × (first (word_rules result.0 result.1) ≡ first (isrn_rules self.now.values)) }
+    {
+        let v = &self.values;
+        let low = v[IIN] % 0x1_0000 * 0x1_0000_0000_0000
+            + v[OID] * 0x1_0000_0000
+            + v[ISSN] * 0x10
+            + v[CHD];
+        (v[IIN] / 0x1_0000, low)
     }
-    let low = v[IIN] % 0x1_0000 * 0x1_0000_0000_0000
-        + v[OID] * 0x1_0000_0000
-        + v[ISSN] * 0x10
-        + v[CHD];
-    let digit = judge_isrn(v[IIN] / 0x1_0000, low);
-    need(digit, digit == 0, need(WRONG_ROOM, bytes <= room, 0))
-}
 
-// The dataset before SECR: the sixteen values and zero padding.
-fn write_body(s: &mut [u8], v: &[u64])
-    requires { (length v.now ≡ 16) × (20 ≤ length s.old) × (length s.old ≡ dataset_of v.now - 2) }
-    ensures { s.new ≡ body_of v.now }
-{
-    fields::clear(s);
-    fields::write(s, Layout::Shell, v);
-}
+    // Whether the values keep their rules, and the dataset has room in `room` bytes.
+    #[tactic(auto, using(std::proofs::lemmas::Bool::Decides::nat_tests, crate::proofs::Rules::fitting), unfolding(crate::specs::Encode::encode_number, rules::specs::First::first))]
+    fn judge(&self, room: usize) -> Result<(), Reason>
+        ensures { said result ≡ encode_number self.now.values room }
+    {
+        let v = &self.values;
+        if !fields::all_fit(Layout::Shell, v) {
+            return Err(Reason::TooLarge);
+        }
+        let bytes = self.dataset();
+        form(v[SHELL_BIT_MAP], bytes)?;
+        let (high, low) = self.isrn();
+        judge_isrn(high, low)?;
+        if room < bytes {
+            return Err(Reason::WrongRoom);
+        }
+        Ok(())
+    }
 
-// The dataset: the bytes before SECR, and SECR.
-fn write_dataset(s: &mut [u8], v: &[u64])
-    requires { (length v.now ≡ 16) × (22 ≤ length s.old) × (length s.old ≡ dataset_of v.now) }
-    ensures { s.new ≡ encoded_shell v.now }
-{
-    let end = s.len() - 2;
-    write_body(&mut s[..end], v);
-    let x = crc::crc(&s[..end]);
-    s[end] = (x / 256) as u8;
-    s[end + 1] = (x % 256) as u8;
+    // The dataset before SECR: the sixteen values and zero padding.
+    #[tactic(auto, unfolding(crate::specs::Shell::body_of))]
+    fn write_body(&self, s: &mut [u8])
+        requires { (20 ≤ length s.old) × (length s.old ≡ dataset_of self.now.values - 2) }
+        ensures { s.new ≡ body_of self.now.values }
+    {
+        s.fill(0);
+        fields::write(s, Layout::Shell, &self.values);
+    }
+
+    // The dataset: the bytes before SECR, and SECR.
+    #[tactic(auto, using(crate::proofs::Dataset::joined))]
+    fn write_dataset(&self, s: &mut [u8])
+        requires { (22 ≤ length s.old) × (length s.old ≡ dataset_of self.now.values) }
+        ensures { s.new ≡ encoded_shell self.now.values }
+    {
+        let end = s.len() - 2;
+        let (body, secr) = s.split_at_mut(end);
+        self.write_body(body);
+        let [high, low] = crc::crc(body).to_be_bytes();
+        secr.copy_from_slice(&[high, low]);
+    }
+
+    // Judges the values, and writes the dataset of those that are taken. Tried as one function with `encode`: the edit `refusal_told_as_done` then changes the
+    // call that the answers name, and can't be told at the answer.
+    #[tactic(auto, using(crate::proofs::Rules::taken))]
+    fn write(&self, out: &mut [u8]) -> Result<(), Reason>
+        ensures { (said result ≡ encode_number self.now.values (length out.old)) × (out.new ≡ encode_in self.now.values out.old) }
+    {
+        self.judge(out.len())?;
+        let extent = self.dataset();
+        self.write_dataset(&mut out[..extent]);
+        Ok(())
+    }
 }
 
 // Writes the dataset of the values into the buffer; later bytes stay. Refused by 26, 5, 8, 12 or 21, nothing is altered.
-pub fn encode(s: Shell, out: &mut [u8]) -> Answer
-    ensures { (result ≡ says (encode_number s.values (length out.old)) 0) × (out.new ≡ encode_in s.values out.old) }
+pub fn encode(s: Shell, out: &mut [u8]) -> Result<(), Reason>
+    ensures { (said result ≡ encode_number s.values (length out.old)) × (out.new ≡ encode_in s.values out.old) }
 {
-    let v = s.values;
-    let number = judge(&v, out.len());
-    if number == 0 {
-        let extent = 4 * (v[SHELL_LENGTH] as usize);
-        write_dataset(&mut out[..extent], &v);
-        return Answer {
-            number: 0,
-            entry: 0,
-        };
-    }
-    Answer {
-        number: number,
-        entry: 0,
-    }
+    s.write(out)
 }

@@ -6,23 +6,18 @@ use mathlib.Core.Bool.{Bool, true, false}
 use mathlib.Core.List.{List}
 use Prim.Native.Nat.{ℕ, zero, suc, ◌≤◌}
 use native.Mathlib.Omega.{arith}
-use lib.ListN.{length}
-use Rattle.chains.specs.Chain.{Sector, last_of}
-use Rattle.chains.specs.Packed.{mark_said}
+use Rattle.chains.specs.Chain.{Sector}
 use Rattle.rules.specs.First.{first}
-use Rattle.image.specs.Image.{S, element, sectors, mark}
+use Rattle.image.specs.Image.{S}
 use Rattle.rules.specs.Answer.{says}
 use Rattle.rules.proofs.AnswerLaws.{says_same}
 use Rattle.image.specs.Verdict.{is_product, verdict}
 use Rattle.image.specs.Shape.{Shaped}
 use Rattle.image.specs.Product.{product_at}
 use Rattle.image.specs.Seen.{seen_by, seen}
-use Rattle.image.specs.Found.{found_in, found_of}
+use Rattle.image.specs.Found.{Found, Not, found_in, found_of}
 use Rattle.image.specs.declared.Shape.{Shape}
-use Rattle.image.specs.declared.Found.{Found}
-use Rattle.image.specs.declared.Found.TheVariants.{Not}
 use Rattle.image.proofs.Exact.{product_test, accepts}
-use Rattle.image.proofs.Founds.{Finds}
 use Rattle.steps.specs.Step.{Step, owner, step_rules}
 use Rattle.steps.specs.Steps.{answer, next}
 use Rattle.image.specs.Facts.{Present}
@@ -30,22 +25,10 @@ use Rattle.steps.proofs.Acts.{Taken, refused-same}
 
 -- ---- what is found
 
--- entry j of the accepted image c of shape g is a product, whose chain ends in sector l after n sectors with the mark m
-pub record Sees (c : List ℕ) (j : ℕ) (g : Shape) (l n m : ℕ) : Type 0 where
-  pub present : Present c j
-  pub shape : Shaped c g
-  pub sector : Sector (S c) l
-  pub last-is : l ≡ last_of (sectors c j)
-  pub count-is : n ≡ length (sectors c j)
-  pub mark-is : m ≡ mark c j
-
 -- every step on entry j is refused with the number n and the entry e
 pub record Turned (c : List ℕ) (j n e : ℕ) : Type 0 where
   pub some : 1 ≤ n
   pub answers : (s : Step) → owner s ≡ j → answer c s ≡ says n e
-
-pub sees_of : {c : List ℕ} {j l n m : ℕ} {g : Shape} → Finds c j l n → Shaped c g → m ≡ mark_said (S c) l (element c l) → Sees c j g l n m
-sees_of f s e = record { present = f.present; shape = s; sector = f.sector; last-is = f.last-is; count-is = f.count-is; mark-is = e ∙ f.mark-is }
 
 pub turned_of : {c : List ℕ} {j n e : ℕ} {r : Found} → r ≡ found_of c j → r ≡ Not n e → Turned c j n e
 unfolding found_of seen answer

@@ -2,3 +2,4 @@ pub mod Buffer
 pub mod Places
 pub mod Round
 pub mod Rules
+pub mod Once

@@ -3,11 +3,11 @@ use mathlib.Core.Path.{◌≡◌, refl, ap, ◌∙◌}
 use mathlib.Core.Bool.{Bool, true, false, ◌&&◌}
 use mathlib.Core.List.{List, ◌∷◌}
 use Prim.Native.Nat.{ℕ, zero, suc, ◌+◌, ◌-◌, ◌*◌, ◌≤◌, ◌<◌}
-use native.Mathlib.Nat.{add-zero, mul-zero, mul-suc, mul-le-mul, mul-le-mul_left}
+use native.Mathlib.Nat.{add-zero, mul-zero, mul-suc, mul-le-mul_left}
 use native.Mathlib.Numerals.{add-one}
 use native.Mathlib.Omega.{arith}
 use lib.Dec.{T, eqb, eqb_refl}
-use lib.ListN.{length, get_or, drop, replicate}
+use lib.ListN.{length, get_or, drop}
 use lib.Seq.{drop-cons}
 use Rattle.bits.specs.Bits.{field, store}
 use Rattle.fields.specs.declared.Span.{Span}
@@ -44,9 +44,6 @@ places-joined p a (suc n) =
 pub room : (p i n : ℕ) → i < n → p * i + p ≤ p * n
 room p i n h = omega (arith, mul-le-mul_left {m = suc i} {n = n} p h, mul-suc p i)
 
-pub few_bits : (p i : ℕ) → p ≤ 8 → i ≤ 252 → p * i ≤ 2016
-few_bits p i h k = mul-le-mul {m₂ = 252} h k
-
 pub element-is : (p n i : ℕ) (l : List ℕ) → i < n → get_or (fields l (places p 0 n)) i 0 ≡ field l (p * i) p
 element-is p n i l h =
     let e : 0 + p * i ≡ p * i = omega arith in
@@ -55,11 +52,6 @@ element-is p n i l h =
     ∙ ap (λ (x : ℕ). field l x p) e
 
 -- ---- one turn of the packing
-
-pub pack-start : (p : ℕ) (s es : List ℕ) → stores s (places p (p * 0) (length es - 0)) (drop 0 es) ≡ stores s (places p 0 (length es)) es
-pack-start p s es =
-    let z : length es - 0 ≡ length es = omega arith in
-    rw (mul-zero p, z)
 
 pub pack-more : (p : ℕ) (s es : List ℕ) (i : ℕ) → i < length es
     → stores s (places p (p * i) (length es - i)) (drop i es)
@@ -74,8 +66,3 @@ pack-more p s es i h =
 pub pack-end : (p a : ℕ) (s es : List ℕ) (i : ℕ) → length es ≤ i → stores s (places p a (length es - i)) (drop i es) ≡ s
 unfolding places stores
 pack-end p a s es i h = let z : length es - i ≡ 0 = omega arith in rw z
-
-pub drop_zeros : (k n : ℕ) → drop {A = ℕ} k (replicate n 0) ≡ replicate (n - k) 0
-drop_zeros zero n = let e : n - 0 ≡ n = omega arith in rw e
-drop_zeros (suc k) zero = let e : 0 - suc k ≡ 0 = omega arith in rw e
-drop_zeros (suc k) (suc n) = let e : suc n - suc k ≡ n - k = omega arith in rw e (drop_zeros k n)

@@ -1,9 +1,13 @@
 -- An annex: what the calls on a chain table's elements answer and write, as the machine finds it. Assumes nothing.
-use Rattle.std.specs.Prelude.{ℕ, zero, suc, ◌-◌, List, ◌++◌, length, replicate}
+use Rattle.std.specs.Prelude.{ℕ, zero, suc, ◌-◌, List, ◌++◌, length, replicate, Result}
+use Rattle.std.specs.Result.{result_unwrap_or}
 use Rattle.fields.specs.Fields.{fields, stores}
 use Rattle.rules.specs.First.{first}
 use Rattle.rules.specs.Answer.{if_done}
+use Rattle.rules.specs.declared.Reason.{Reason}
+use Rattle.rules.specs.Reasons.{said}
 use Rattle.table.specs.declared.Elements.{Elements}
+use Rattle.table.specs.declared.Table as table
 use Rattle.table.specs.Table.{element_places, encode_rules, decode_rules}
 
 unfoldable pub encode_number : ℕ → List ℕ → ℕ → ℕ
@@ -31,3 +35,10 @@ elements_of (suc n) s b = record { number = suc n; entry = 0; count = 0; element
 
 abbrev pub decode_of : ℕ → List ℕ → Elements
 decode_of s b = elements_of (decode_number s (length b)) s b
+
+-- what C is told of a result: its number, and the table, or zeros
+abbrev pub no_table : table.Table
+no_table = record { count = 0; elements = replicate 252 0 }
+
+abbrev pub coded_table : Result table.Table Reason → Elements
+coded_table r = record { number = said r; entry = 0; count = (result_unwrap_or r no_table).count; elements = (result_unwrap_or r no_table).elements }

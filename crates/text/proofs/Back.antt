@@ -10,8 +10,7 @@ use lib.ListN.{length, length-append}
 use lib.Dec.{lit<, lit≤}
 use borrow.Author.Tests.{lt-ltb, le-ltb, le-leb, lt-leb}
 use Rattle.io.specs.Digits.{hex_digit_ascii, last_digits}
-use Rattle.text.specs.declared.Number.TheVariants as number
-use Rattle.text.specs.declared.Byte.TheVariants as byte
+use Rattle.std.specs.Prelude.{Some}
 use Rattle.text.specs.Numbers.{is_digit, all_digits, after, number_after, number_of, places, spelled}
 use Rattle.text.specs.Hex.{meant, pair_with, pair_of}
 use Rattle.text.proofs.Digits.{begun}
@@ -42,7 +41,7 @@ digits_back (suc k) n h =
     let front = last_digits 10 k (n / 10) in
     (all-last front (hex_digit_ascii (n % 10)) r.0 s.0, after_last front 0 (hex_digit_ascii (n % 10)) ∙ (rw (r.1, s.1) (div-add-mod' n 10)))
 
-read_digits : (k n : ℕ) → n < 10 ^ k → n < 2 ^ 64 → number_after 0 (last_digits 10 k n) ≡ number.Is n
+read_digits : (k n : ℕ) → n < 10 ^ k → n < 2 ^ 64 → number_after 0 (last_digits 10 k n) ≡ Some n
 read_digits k n h g = let r = digits_back k n h in rw (r.0, r.1, lt-ltb n (2 ^ 64) g)
 
 some : (k n : ℕ) → 1 ≤ k → length (last_digits 10 k n) ≡ 0 → ⊥
@@ -50,7 +49,7 @@ some zero n h e = omega arith
 some (suc k) n h e = let z = length-append (last_digits 10 k (n / 10)) (hex_digit_ascii (n % 10) ∷ []) in omega arith
 
 -- a number that is written and read again is the number
-pub number_back : (n : ℕ) → n < 2 ^ 64 → number_of (spelled n) ≡ number.Is n
+pub number_back : (n : ℕ) → n < 2 ^ 64 → number_of (spelled n) ≡ Some n
 unfolding spelled
 number_back n h = begun (last_digits 10 (places 19 n) n) (some (places 19 n) n (one-counted 19 n)) ∙ read_digits (places 19 n) n (held 19 n (lt_of_lt_of_le h (lit≤ tt))) h
 
@@ -61,11 +60,11 @@ meant_back d h =
       | no g ↦ rw (le-ltb d 10 (omega arith), le-leb 48 (87 + d) (omega arith), lt-leb (87 + d) 57 (omega arith), le-leb 97 (87 + d) (omega arith), le-leb (87 + d) 102 (omega arith)) (omega arith)
     ]
 
-joined : (x y h l b : ℕ) → x ≡ h → y ≡ l → h < 16 → l < 16 → 16 * h + l ≡ b → pair_with x y ≡ byte.Is b
+joined : (x y h l b : ℕ) → x ≡ h → y ≡ l → h < 16 → l < 16 → 16 * h + l ≡ b → pair_with x y ≡ Some b
 joined x y h l b p q f g e = rw (p, q, lt-ltb h 16 f, lt-ltb l 16 g, e)
 
 -- a byte that is written and read again is the byte
-pub byte_back : (b : ℕ) → b < 256 → pair_of (hex_digit_ascii (b / 16)) (hex_digit_ascii (b % 16)) ≡ byte.Is b
+pub byte_back : (b : ℕ) → b < 256 → pair_of (hex_digit_ascii (b / 16)) (hex_digit_ascii (b % 16)) ≡ Some b
 byte_back b h =
     let f : b / 16 < 16 = (div-lt_iff_lt-mul (lit< tt)).1 h in
     let g = mod-lt b (lit< tt) in

@@ -1,4 +1,4 @@
--- What the next byte does to a number that is being read: a digit goes on, anything else ends it, and a number that is too large stays so.
+-- What the next byte does to a number that is being read: a number that is too large stays so.
 -- Assumes nothing.
 use mathlib.Core.Path.{◌≡◌, refl}
 use mathlib.Core.Bool.{and-false}
@@ -7,9 +7,9 @@ use Prim.Native.Nat.{ℕ, ◌+◌, ◌-◌, ◌*◌, ◌^◌, ◌≤◌, ◌<◌
 use native.Mathlib.Omega.{arith}
 use native.Mathlib.Numerals.{add-one}
 use lib.ListN.{length, get_or, drop}
-use lib.Seq.{drop-cons, drop-length}
-use borrow.Author.Tests.{lt-ltb, le-ltb, le-leb, lt-leb}
-use Rattle.text.specs.declared.Number.TheVariants.{Is, Not}
+use lib.Seq.{drop-cons}
+use borrow.Author.Tests.{le-ltb}
+use Rattle.std.specs.Prelude.{None}
 use Rattle.text.specs.Numbers.{after, number_after, number_of}
 
 pub grows : (w : List ℕ) (n : ℕ) → n ≤ after n w
@@ -24,19 +24,7 @@ begun (b ∷ w) h = refl
 pub at_byte : (w : List ℕ) (i n : ℕ) → i < length w → number_after n (drop i w) ≡ number_after n (get_or w i 0 ∷ drop (i + 1) w)
 at_byte w i n h = rw (add-one, drop-cons w i 0)
 
-pub below-zero : (n b : ℕ) (w : List ℕ) → b < 48 → number_after n (b ∷ w) ≡ Not
-below-zero n b w h = rw (lt-leb 48 b h)
-
-pub above_nine : (n b : ℕ) (w : List ℕ) → 48 ≤ b → 57 < b → number_after n (b ∷ w) ≡ Not
-above_nine n b w h g = rw (le-leb 48 b h, lt-leb b 57 g)
-
-pub goes_on : (n b : ℕ) (w : List ℕ) → 48 ≤ b → b ≤ 57 → number_after n (b ∷ w) ≡ number_after (n * 10 + (b - 48)) w
-goes_on n b w h g = rw (le-leb 48 b h, le-leb b 57 g)
-
-pub too_large : (n b : ℕ) (w : List ℕ) → 2 ^ 64 ≤ n * 10 + (b - 48) → number_after n (b ∷ w) ≡ Not
+pub too_large : (n b : ℕ) (w : List ℕ) → 2 ^ 64 ≤ n * 10 + (b - 48) → number_after n (b ∷ w) ≡ None
 too_large n b w h =
     let g : 2 ^ 64 ≤ after (n * 10 + (b - 48)) w = omega (arith, grows w (n * 10 + (b - 48))) in
     rw (le-ltb (after (n * 10 + (b - 48)) w) (2 ^ 64) g, and-false)
-
-pub at-end : (w : List ℕ) (n : ℕ) → n < 2 ^ 64 → number_after n (drop (length w) w) ≡ Is n
-at-end w n h = rw (drop-length w, lt-ltb n (2 ^ 64) h)

@@ -1,33 +1,42 @@
--- The first place of a byte, looked for from a place on: one byte more is passed, or is the one. Assumes nothing.
-use mathlib.Core.Path.{◌≡◌}
-use mathlib.Core.List.{List, ◌∷◌}
-use Prim.Native.Nat.{ℕ, suc, ◌+◌, ◌-◌, ◌≤◌, ◌<◌}
+-- The first place of a byte is the library's. Assumes nothing.
+use mathlib.Core.Path.{◌≡◌, refl}
+use mathlib.Core.Bool.{Bool, true, false, cond}
+use mathlib.Core.List.{List, [], ◌∷◌}
+use Prim.Native.Nat.{ℕ, suc, ◌+◌, ◌≤◌}
 use native.Mathlib.Omega.{arith}
-use native.Mathlib.Numerals.{add-one}
-use lib.ListN.{length, get_or, drop, length-drop}
-use lib.Seq.{drop-cons, take_all}
-use borrow.Author.Tests.{eq-eqb, ne_eqb}
-use Rattle.text.specs.Bytes.{index_of, index_after, slice}
+use native.Mathlib.Decide.{dec_lt}
+use lib.Dec.{eqb}
+use lib.ListN.{length}
+use borrow.Author.Tests.{lt-ltb, le-ltb}
+use Rattle.std.specs.Prelude.{Option, unwrap_or}
+use Rattle.std.specs.List.{position, position_or_len}
+use Rattle.std.proofs.lemmas.List.Recursion.{is_position_or_len}
+use Rattle.text.specs.Bytes.{index_of, index_after}
 
-slice_cons : (s : List ℕ) (p e : ℕ) → p < e → e ≤ length s → slice p e s ≡ get_or s p 0 ∷ slice (p + 1) e s
-unfolding slice
-slice_cons s p e h g =
-    let k : e - p ≡ suc (e - (p + 1)) = omega arith in
-    rw (k, drop-cons s p 0 (omega arith), add-one)
+after-is : (t : Bool) (n : ℕ) → index_after t n ≡ cond t 0 (1 + n)
+unfolding index_after
+after-is true n = refl
+after-is false n = let e : suc n ≡ 1 + n = omega arith in e
 
-pub found : (s : List ℕ) (p e b : ℕ) → p < e → e ≤ length s → get_or s p 0 ≡ b → p + index_of b (slice p e s) ≡ p
-unfolding index_of index_after
-found s p e b h g q = rw (slice_cons s p e h g, eq-eqb (get_or s p 0) b q) (omega arith)
+index_of-is : (b : ℕ) (l : List ℕ) → index_of b l ≡ position_or_len (λ x. eqb x b) l
+unfolding index_of
+index_of-is b l = is_position_or_len (index_of b) (λ x. eqb x b) refl (λ x xs. after-is (eqb x b) (index_of b xs)) l
 
-pub passed : (s : List ℕ) (p e b : ℕ) → p < e → e ≤ length s → (get_or s p 0 ≡ b → ⊥) → p + index_of b (slice p e s) ≡ p + 1 + index_of b (slice (p + 1) e s)
-unfolding index_of index_after
-passed s p e b h g q = rw (slice_cons s p e h g, ne_eqb (get_or s p 0) b q) (omega arith)
+one_more : (t : Bool) (n m : ℕ) → n ≤ m → index_after t n ≤ suc m
+unfolding index_after
+one_more true n m h = omega arith
+one_more false n m h = omega arith
 
-pub none : (s : List ℕ) (p e b : ℕ) → p ≡ e → p + index_of b (slice p e s) ≡ e
-unfolding index_of slice
-none s p e b q = let k : e - p ≡ 0 = omega arith in rw k (omega arith)
+within : (b : ℕ) (l : List ℕ) → index_of b l ≤ length l
+unfolding index_of
+within b [] = omega arith
+within b (x ∷ l) = one_more (eqb x b) (index_of b l) (length l) (within b l)
 
--- from a place on to the end
-pub to_end : (s : List ℕ) (p b : ℕ) → index_of b (slice p (length s) s) ≡ index_of b (drop p s)
-unfolding slice
-to_end s p b = rw (take_all (length s - p) (drop p s) (omega (arith, length-drop p s)))
+pub found : (b : ℕ) (l : List ℕ) (o : Option ℕ) → o ≡ position (λ x. eqb x b) l → (unwrap_or o (length l) ≡ index_of b l) × (index_of b l ≤ length l)
+found b l o e =
+    let w = within b l in
+    let q = index_of-is b l in
+    elim (dec_lt (index_of b l) (length l)) [
+      | yes h ↦ (rw (e, ← q, lt-ltb (index_of b l) (length l) h), w)
+      | no h ↦ (rw (e, ← q, le-ltb (index_of b l) (length l) (omega arith)) (omega arith), w)
+    ]

@@ -5,7 +5,7 @@ pub mod Spelled
 pub mod Room
 pub mod Back
 pub mod Split
-pub mod Listed
 pub mod Numbered
 pub mod Pairs
 pub mod Turns
+pub mod Printed

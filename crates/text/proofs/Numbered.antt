@@ -1,17 +1,20 @@
 -- The numbers of a line, word by word: those read so far are at the front of the list, and what is left of the line gives the others. Assumes nothing.
 use mathlib.Core.Path.{◌≡◌, refl, sym, ap, ◌∙◌}
 use mathlib.Core.List.{List, [], ◌∷◌, ◌++◌, append-nil, append_assoc}
-use Prim.Native.Nat.{ℕ, ◌+◌, ◌≤◌, ◌<◌}
+use Prim.Native.Nat.{ℕ, ◌+◌, ◌-◌, ◌≤◌, ◌<◌}
 use native.Mathlib.Omega.{arith}
 use native.Mathlib.Numerals.{add-one}
 use lib.ListN.{length, take, drop, set, length-set, take-append-drop}
 use lib.Seq.{take_at, take_all, take-suc-set, drop-set-lt, drop-drop, length-take-le}
 use borrow.Author.Tests.{eq-eqb, ne_eqb}
-use Rattle.text.specs.declared.Number.TheVariants.{Is, Not}
+use Rattle.std.specs.Prelude.{Some, None}
 use Rattle.text.specs.Numbers.{number_of}
 use Rattle.text.specs.Words.{words, rest_of, word_end, numbers_in, numbers_of, count_of, fronted, none}
 use Rattle.text.proofs.Split.{words_after, rest-after, after_one, after-end}
-use Rattle.text.proofs.Listed.{part}
+
+-- the word from byte p up to byte e
+abbrev pub part : List ℕ → ℕ → ℕ → List ℕ
+part l p e = take (e - p) (drop p l)
 
 -- what is known before each word: `count` numbers have been read, and the words after byte `at` are left
 pub record Reading (l b₀ b : List ℕ) (at count : ℕ) : Type 0 where
@@ -60,7 +63,7 @@ module _ (l b₀ b : List ℕ) (at count : ℕ) (k : Reading l b₀ b at count) 
       short e (omega arith)
 
   -- a word that is no number
-  pub strange : (e : ℕ) → e ≡ word_end l (at + 1) → at < length l → number_of (part l (at + 1) e) ≡ Not → (none ≡ count_of (length b₀) l) × (b ≡ fronted (numbers_of (length b₀) l) b₀)
+  pub strange : (e : ℕ) → e ≡ word_end l (at + 1) → at < length l → number_of (part l (at + 1) e) ≡ None → (none ≡ count_of (length b₀) l) × (b ≡ fronted (numbers_of (length b₀) l) b₀)
   unfolding numbers_of
   strange e u h t =
       let v : numbers_in (words_after l at) ≡ [] = rw (after_one l at h, ← u, t) in
@@ -84,7 +87,7 @@ module _ (l b₀ b : List ℕ) (at count : ℕ) (k : Reading l b₀ b at count) 
       (rw (eq-eqb _ _ g) (sym (sized (numbers_of (length b₀) l) b count e fit)), kept (numbers_of (length b₀) l) b b₀ count e fit k.old)
 
   -- a word that is a number
-  pub one_more : (e n : ℕ) → e ≡ word_end l (at + 1) → at < length l → (count ≡ length b₀ → ⊥) → number_of (part l (at + 1) e) ≡ Is n → Reading l b₀ (set b count n) e (count + 1)
+  pub one_more : (e n : ℕ) → e ≡ word_end l (at + 1) → at < length l → (count ≡ length b₀ → ⊥) → number_of (part l (at + 1) e) ≡ Some n → Reading l b₀ (set b count n) e (count + 1)
   one_more e n u h f t =
       let v : numbers_in (words_after l at) ≡ n ∷ numbers_in (words_after l e) = rw (after_one l at h, ← u, t) in
       let m : length (words_after l at) ≡ 1 + length (words_after l e) = rw (after_one l at h, ← u) (omega arith) in

@@ -1,16 +1,16 @@
 -- A word of hexadecimal digits, two at a time: so many bytes as it has pairs. Assumes nothing.
 use mathlib.Core.Path.{◌≡◌, refl, sym}
-use mathlib.Core.Bool.{true, false, ◌&&◌, and-false}
+use mathlib.Core.Bool.{true, false, and-false}
 use mathlib.Core.List.{List, [], ◌∷◌}
 use Prim.Native.Nat.{ℕ, zero, suc, ◌+◌, ◌*◌, ◌/◌, ◌%◌, ◌<◌, min}
 use native.Mathlib.Omega.{arith}
 use native.Mathlib.Numerals.{add-one}
 use native.Mathlib.Decide.{dec_lt}
 use lib.ListN.{length, get_or, take, drop, set}
-use lib.Seq.{drop-cons, drop-length, take_all, take-suc, set_at, append_snoc, length-take-le}
-use Rattle.text.specs.declared.Byte.TheVariants.{Is, Not}
+use lib.Seq.{drop-cons, drop-length, get_or-take, get_or-drop, take_all, take-suc, set_at, append_snoc, length-take-le}
+use Rattle.std.specs.Prelude.{Option, Some, None}
+use Rattle.std.specs.Simd.{first_chunks}
 use Rattle.text.specs.Words.{same, bytes_of, fronted, none}
-use Rattle.text.proofs.Split.{same_alike}
 use Rattle.text.specs.Hex.{pair_of, is_byte, in_pairs, some, is_hex, byte_or0, bytes_in, hex_count}
 
 -- ---- how many
@@ -25,11 +25,6 @@ odd [] h = absurd (h refl)
 odd (a ∷ []) h = refl
 odd (a ∷ b ∷ w) h = rw (odd w (λ e. h (omega arith))) (and-false (is_byte (pair_of a b)))
 
-none-there : (w : List ℕ) → length w / 2 ≡ 0 → (some w && in_pairs w) ≡ false
-none-there [] h = refl
-none-there (a ∷ []) h = refl
-none-there (a ∷ b ∷ w) h = absurd (omega arith)
-
 there : (w : List ℕ) → (length w / 2 ≡ 0 → ⊥) → some w ≡ true
 there [] h = absurd (h refl)
 there (a ∷ w) h = refl
@@ -41,12 +36,6 @@ uncounted : (w : List ℕ) → is_hex w ≡ false → none ≡ hex_count w
 uncounted w e = rw e
 
 module _ (w : List ℕ) where
-  pub dash : same w (bytes_of "-") ≡ true → 0 ≡ hex_count w
-  dash e = rw (same_alike w (bytes_of "-") e)
-
-  pub too_few : same w (bytes_of "-") ≡ false → length w / 2 ≡ 0 → none ≡ hex_count w
-  too_few e h = uncounted w (rw (e, none-there w h))
-
   pub uneven : same w (bytes_of "-") ≡ false → (length w / 2 ≡ 0 → ⊥) → (length w % 2 ≡ 0 → ⊥) → none ≡ hex_count w
   uneven e h o = uncounted w (rw (e, there w h, odd w o))
 
@@ -56,6 +45,20 @@ module _ (w : List ℕ) where
   pub all : same w (bytes_of "-") ≡ false → (length w / 2 ≡ 0 → ⊥) → in_pairs w ≡ true → length w / 2 ≡ hex_count w
   all e h o = counted w (rw (e, there w h, o))
 
+-- the two bytes of a chunk
+chunk : (w : List ℕ) (k i : ℕ) → i < k → (get_or (get_or (first_chunks 2 k w) i []) 0 0 ≡ get_or w (2 * i) 0) × (get_or (get_or (first_chunks 2 k w) i []) 1 0 ≡ get_or w (2 * i + 1) 0)
+chunk w zero i h = absurd (omega arith)
+chunk w (suc k) zero h = (get_or-take 2 w 0 0 (omega arith), get_or-take 2 w 1 0 (omega arith))
+chunk w (suc k) (suc i) h =
+    let e : 2 * suc i ≡ 2 + 2 * i = omega arith in
+    let f : 2 + 2 * i + 1 ≡ 2 + (2 * i + 1) = omega arith in
+    let t = chunk (drop 2 w) k i (omega arith) in
+    rw (e, f, ← get_or-drop 2 w (2 * i) 0, ← get_or-drop 2 w (2 * i + 1) 0) t
+
+-- the digits d of a chunk stand there in the word
+pub looked : (w d : List ℕ) (i : ℕ) (o : Option ℕ) → i < length w / 2 → d ≡ get_or (first_chunks 2 (length w / 2) w) i [] → o ≡ pair_of (get_or d 0 0) (get_or d 1 0) → pair_of (get_or w (2 * i) 0) (get_or w (2 * i + 1) 0) ≡ o
+looked w d i o h e q = let t = chunk w (length w / 2) i h in sym (rw (e, t.0, t.1) at q)
+
 -- the two digits from byte p on
 two : (w : List ℕ) (p : ℕ) → p + 1 < length w → drop p w ≡ get_or w p 0 ∷ get_or w (p + 1) 0 ∷ drop (p + 2) w
 two w p h =
@@ -63,10 +66,10 @@ two w p h =
     let f : suc (p + 1) ≡ p + 2 = omega arith in
     rw (drop-cons w p 0 (omega arith), e, drop-cons w (p + 1) 0 h, f)
 
-pub no_pair : (w : List ℕ) (p : ℕ) → p + 1 < length w → pair_of (get_or w p 0) (get_or w (p + 1) 0) ≡ Not → in_pairs (drop p w) ≡ false
+pub no_pair : (w : List ℕ) (p : ℕ) → p + 1 < length w → pair_of (get_or w p 0) (get_or w (p + 1) 0) ≡ None → in_pairs (drop p w) ≡ false
 no_pair w p h e = rw (two w p h, e)
 
-pub a_pair : (w : List ℕ) (p x : ℕ) → p + 1 < length w → pair_of (get_or w p 0) (get_or w (p + 1) 0) ≡ Is x → in_pairs (drop p w) ≡ in_pairs (drop (p + 2) w)
+pub a_pair : (w : List ℕ) (p x : ℕ) → p + 1 < length w → pair_of (get_or w p 0) (get_or w (p + 1) 0) ≡ Some x → in_pairs (drop p w) ≡ in_pairs (drop (p + 2) w)
 a_pair w p x h e = rw (two w p h, e)
 
 pub at-end : (w : List ℕ) (p : ℕ) → p ≡ length w → in_pairs (drop p w) ≡ true

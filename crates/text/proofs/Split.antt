@@ -1,5 +1,5 @@
 -- A line's words one by one: the first ends at the first blank, and the others are the words of what stands after it. Assumes nothing.
-use mathlib.Core.Path.{◌≡◌, refl, sym, ap}
+use mathlib.Core.Path.{◌≡◌, refl, ap}
 use mathlib.Core.Bool.{Bool, true, false, cond, ◌&&◌}
 use mathlib.Core.List.{List, [], ◌∷◌}
 use Prim.Native.Nat.{ℕ, suc, ◌+◌, ◌-◌, ◌≤◌, ◌<◌}
@@ -9,7 +9,8 @@ use native.Mathlib.Decide.{dec_lt}
 use lib.ListN.{length, take, drop, length-drop}
 use lib.Seq.{drop-drop}
 use lib.Dec.{eqb, ltb, leb-suc-suc}
-use borrow.Author.Tests.{lt-ltb, le-ltb, eqb-true, eq-eqb}
+use borrow.Author.Tests.{lt-ltb, le-ltb, eqb-true}
+use Rattle.std.specs.Str.{bytes_eq}
 use Rattle.text.specs.Bytes.{index_of, index_after}
 use Rattle.text.specs.Words.{longer, words, rest_of, word_end, same}
 
@@ -61,10 +62,6 @@ after-end l p h = rw (le-ltb p (length l) h)
 
 -- ---- words that are the same
 
-pub same_self : (v : List ℕ) → same v v ≡ true
-same_self [] = refl
-same_self (a ∷ v) = rw (eq-eqb a a refl, same_self v)
-
 both : (a b : ℕ) (v w : List ℕ) (t : Bool) → eqb a b ≡ t → (t && same v w) ≡ true → (same v w ≡ true → v ≡ w) → a ∷ v ≡ b ∷ w
 both a b v w true e s h = rw (eqb-true a b e, h s)
 both a b v w false e s h = let z : ◌≡◌ {A = Bool} false true = s in cc
@@ -75,11 +72,9 @@ same_alike [] (b ∷ w) e = cc
 same_alike (a ∷ v) [] e = cc
 same_alike (a ∷ v) (b ∷ w) e = both a b v w (eqb a b) refl e (same_alike v w)
 
-agreed : (r t : Bool) → (r ≡ true → t ≡ true) → (t ≡ true → r ≡ true) → r ≡ t
-agreed true t f g = sym (f refl)
-agreed false true f g = g refl
-agreed false false f g = refl
-
--- a test that is true of equal words alone
-pub same_test : (r : Bool) (v w : List ℕ) → (r ≡ true → v ≡ w) → (v ≡ w → r ≡ true) → r ≡ same v w
-same_test r v w f g = agreed r (same v w) (λ h. rw (f h) (same_self w)) (λ h. g (same_alike v w h))
+-- the library's test of bytes
+pub same_is : (v w : List ℕ) → same v w ≡ bytes_eq v w
+same_is [] [] = refl
+same_is [] (b ∷ w) = refl
+same_is (a ∷ v) [] = refl
+same_is (a ∷ v) (b ∷ w) = rw (same_is v w)

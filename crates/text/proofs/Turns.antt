@@ -11,8 +11,11 @@ use lib.Dec.{ltb}
 use Rattle.text.specs.Bytes.{index_of, slice}
 use borrow.Author.Tests.{lt-ltb, le-ltb, eq-eqb, ne_eqb}
 use borrow.Rule.Slice.PartMut.{put_mid}
+use Rattle.std.specs.Prelude.{IfSome}
+use Rattle.std.specs.Bool.{then_some}
+use Rattle.text.specs.declared.feed.Span.{Span}
 use Rattle.text.specs.declared.feed.Feed.{Feed}
-use Rattle.text.specs.Lines.{moved, last_line, no_line, after_read, filled_of, at_of, end_of, too_long, turn_of, sure_of, Begins, Turn, Reading}
+use Rattle.text.specs.Lines.{span, moved, last_line, no_line, after_read, filled_of, at_of, end_of, too_long, turn_of, sure_of, Begins, Turn, Reading}
 
 -- ---- the bytes moved
 
@@ -56,6 +59,10 @@ module _ (p n : ℕ) (b : List ℕ) (h : p + n ≤ length b) where
 
 -- ---- a read
 
+given_fits : (g : Bool) (l : Span) (n : ℕ) → l.start ≤ l.end → l.end ≤ n → IfSome (then_some g l) (λ k. (k.start ≤ k.end) × (k.end ≤ n))
+given_fits true l n h e = (h, e)
+given_fits false l n h e = tt
+
 -- what a part of the buffer holds afterwards does not change what stands before it
 pub before-part : (p k : ℕ) (b m : List ℕ) → p ≤ length b → take p (put_mid p k b m) ≡ take p b
 before-part p k b m h = take_at (take p b) _ p (length-take-le p b h)
@@ -63,11 +70,11 @@ before-part p k b m h = take_at (take p b) _ p (length-take-le p b h)
 module _ (b : List ℕ) (held : ℕ) (passing : Bool) (a : List ℕ) (kept : take held a ≡ take held b) where
   pub read-ends : held ≤ length b → Reading b held passing a (last_line held)
   unfolding after_read
-  read-ends h = record { gives = rw (le-ltb held 0 (omega arith)); sure = kept; fits = omega arith; ordered = omega arith; within = h }
+  read-ends h = record { gives = rw (le-ltb held 0 (omega arith)); sure = kept; fits = omega arith; placed = given_fits (ltb 0 held) (span 0 held) (length b) (omega arith) h }
 
   pub read-adds : (n : ℕ) → 0 < n → held + n ≤ length b → Reading b held passing a (no_line (held + n) passing)
   unfolding after_read
-  read-adds n h k = record { gives = rw (lt-ltb held (held + n) (omega arith)); sure = kept; fits = k; ordered = omega arith; within = omega arith }
+  read-adds n h k = record { gives = rw (lt-ltb held (held + n) (omega arith)); sure = kept; fits = k; placed = tt }
 
 -- ---- a turn
 
@@ -79,11 +86,11 @@ module _ (b : List ℕ) (f : Feed) (filled at end : ℕ) (e : filled ≡ min f.f
   unfolding end_of
   end_is = rw (at-is, e) at k
 
-  pub turn-whole : end < filled → Turn b f b (record { given = not f.passing; start = at; end = end; at = end + 1; filled = filled; passing = false; ended = false })
+  pub turn-whole : end < filled → Turn b f b (record { line = then_some (not f.passing) (span at end); at = end + 1; filled = filled; passing = false; ended = false })
   unfolding turn_of sure_of
   turn-whole h =
       let t : ltb (end_of b f) (filled_of b f) ≡ true = lt-ltb (end_of b f) (filled_of b f) (omega (arith, end_is)) in
-      record { gives = rw t (cc (at-is, end_is)); sure = rw t (take-length b); fits = omega arith; ordered = omega arith; within = omega arith }
+      record { gives = rw t (cc (at-is, end_is)); sure = rw t (take-length b); fits = omega arith; placed = given_fits (not f.passing) (span at end) (length b) (omega arith) (omega arith) }
 
   module _ (h : filled ≤ end) where
     no_end : ltb (end_of b f) (filled_of b f) ≡ false
@@ -91,7 +98,7 @@ module _ (b : List ℕ) (f : Feed) (filled at end : ℕ) (e : filled ≡ min f.f
 
     pub turn-passed : (a : List ℕ) (r : Feed) → f.passing ≡ true → Reading b 0 true a r → Turn b f a r
     unfolding turn_of sure_of
-    turn-passed a r p q = record { gives = rw (no_end, p) q.gives; sure = rw (no_end, p); fits = q.fits; ordered = q.ordered; within = q.within }
+    turn-passed a r p q = record { gives = rw (no_end, p) q.gives; sure = rw (no_end, p); fits = q.fits; placed = q.placed }
 
     module _ (p : f.passing ≡ false) where
       held-is : filled - at ≡ filled_of b f - at_of b f
@@ -113,8 +120,7 @@ module _ (b : List ℕ) (f : Feed) (filled at end : ℕ) (e : filled ≡ min f.f
         gives = rw (no_end, p, eq-eqb (filled_of b f - at_of b f) (length b) (omega (arith, held-is)));
         sure = begins (moved at (filled - at) b) (moved_front at (filled - at) b fit);
         fits = omega arith;
-        ordered = omega arith;
-        within = omega arith;
+        placed = (omega arith, omega arith);
       }
 
       pub turn-read : (a : List ℕ) (r : Feed) → (filled - at ≡ length b → ⊥) → Reading (moved at (filled - at) b) (filled - at) false a r → Turn b f a r
@@ -125,6 +131,5 @@ module _ (b : List ℕ) (f : Feed) (filled at end : ℕ) (e : filled ≡ min f.f
             gives = rw (no_end, p, ne_eqb (filled_of b f - at_of b f) (length b) (λ x. free (held-is ∙ x)), ← held-is) q.gives;
             sure = begins a (q.sure ∙ moved_front at (filled - at) b fit);
             fits = rw n at q.fits;
-            ordered = q.ordered;
-            within = rw n at q.within;
+            placed = rw n at q.placed;
           }

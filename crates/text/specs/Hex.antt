@@ -1,8 +1,6 @@
 -- Bytes as two hexadecimal digits, in lower case. Assumes nothing.
-use Rattle.std.specs.Prelude.{ℕ, ◌+◌, ◌-◌, ◌*◌, ◌/◌, ◌%◌, Bool, true, false, cond, ◌&&◌, ◌||◌, List, [], ◌∷◌, length, leb, ltb}
+use Rattle.std.specs.Prelude.{ℕ, ◌+◌, ◌-◌, ◌*◌, ◌/◌, ◌%◌, Bool, true, false, cond, ◌&&◌, ◌||◌, List, [], ◌∷◌, Option, Some, None, unwrap_or, length, leb, ltb}
 use Rattle.io.specs.Digits.{hex_digit_ascii}
-use Rattle.text.specs.declared.Byte.{Byte}
-use Rattle.text.specs.declared.Byte.TheVariants.{Is, Not}
 use Rattle.text.specs.Words.{same, bytes_of, none}
 
 -- what `0` to `9` and `a` to `f` mean; 16 for any other byte
@@ -13,10 +11,10 @@ meant b =
     16)
 
 -- the byte of two digits that mean x and y
-abbrev pub pair_with : ℕ → ℕ → Byte
-pair_with x y = cond (ltb x 16 && ltb y 16) (Is (16 * x + y)) Not
+abbrev pub pair_with : ℕ → ℕ → Option ℕ
+pair_with x y = cond (ltb x 16 && ltb y 16) (Some (16 * x + y)) None
 
-abbrev pub pair_of : ℕ → ℕ → Byte
+abbrev pub pair_of : ℕ → ℕ → Option ℕ
 pair_of a b = pair_with (meant a) (meant b)
 
 -- the two digits of a byte
@@ -25,9 +23,9 @@ spelled_byte b = hex_digit_ascii (b / 16) ∷ hex_digit_ascii (b % 16) ∷ []
 
 -- ---- a word of such digits
 
-abbrev pub is_byte : Byte → Bool
-is_byte (Is x) = true
-is_byte Not = false
+abbrev pub is_byte : Option ℕ → Bool
+is_byte (Some x) = true
+is_byte None = false
 
 -- whether a word is digits, two to a byte
 abbrev pub in_pairs : List ℕ → Bool
@@ -44,9 +42,8 @@ abbrev pub is_hex : List ℕ → Bool
 is_hex w = same w (bytes_of "-") || (some w && in_pairs w)
 
 -- the byte that two digits mean, and 0 where they mean none
-abbrev pub byte_or0 : Byte → ℕ
-byte_or0 (Is x) = x
-byte_or0 Not = 0
+abbrev pub byte_or0 : Option ℕ → ℕ
+byte_or0 o = unwrap_or o 0
 
 -- the bytes that a word means, each of two digits
 abbrev pub bytes_in : List ℕ → List ℕ

@@ -1,15 +1,21 @@
 -- The lines of an input that is read into a buffer, a part at a time. Assumes nothing.
-use Rattle.std.specs.Prelude.{ℕ, ◌+◌, ◌-◌, ◌≤◌, min, ◌≡◌, Bool, true, false, cond, not, List, ◌++◌, length, take, drop, eqb, ltb}
+use Rattle.std.specs.Prelude.{ℕ, ◌+◌, ◌-◌, ◌≤◌, min, ◌≡◌, Bool, true, false, cond, not, List, ◌++◌, Some, None, IfSome, length, take, drop, eqb, ltb}
+use Rattle.std.specs.Bool.{then_some}
 use Rattle.text.specs.Bytes.{index_of, slice}
+use Rattle.text.specs.declared.feed.Span.{Span}
 use Rattle.text.specs.declared.feed.Feed.{Feed}
 
 -- before the first turn
 abbrev pub at_first : Feed
-at_first = record { given = false; start = 0; end = 0; at = 0; filled = 0; passing = false; ended = false }
+at_first = record { line = None; at = 0; filled = 0; passing = false; ended = false }
 
--- the line that a turn gives, in the buffer b
-abbrev pub line_of : List ℕ → Feed → List ℕ
-line_of b f = take (f.end - f.start) (drop f.start b)
+-- the bytes from s up to e
+abbrev pub span : ℕ → ℕ → Span
+span s e = record { start = s; end = e }
+
+-- the line that stands there in the buffer b
+abbrev pub line_of : List ℕ → Span → List ℕ
+line_of b l = take (l.end - l.start) (drop l.start b)
 
 -- the buffer b with the n bytes from byte p on moved to its front
 unfoldable pub moved : ℕ → ℕ → List ℕ → List ℕ
@@ -19,11 +25,11 @@ moved p n b = take n (drop p b) ++ drop n b
 
 -- the bytes held are the last line, and the input has ended
 abbrev pub last_line : ℕ → Feed
-last_line held = record { given = ltb 0 held; start = 0; end = held; at = 0; filled = 0; passing = false; ended = true }
+last_line held = record { line = then_some (ltb 0 held) (span 0 held); at = 0; filled = 0; passing = false; ended = true }
 
 -- no line yet: the m bytes are looked at in the next turn
 abbrev pub no_line : ℕ → Bool → Feed
-no_line m passing = record { given = false; start = 0; end = 0; at = 0; filled = m; passing = passing; ended = false }
+no_line m passing = record { line = None; at = 0; filled = m; passing = passing; ended = false }
 
 -- a read that adds no byte is the end of the input
 unfoldable pub after_read : ℕ → Bool → ℕ → Feed
@@ -43,11 +49,11 @@ end_of b f = at_of b f + index_of 10 (slice (at_of b f) (filled_of b f) b)
 
 -- the line up to the line end; the next turn looks from after it on. What ends a line that is passed over is not given
 abbrev pub whole_line : List ℕ → Feed → Feed
-whole_line b f = record { given = not f.passing; start = at_of b f; end = end_of b f; at = end_of b f + 1; filled = filled_of b f; passing = false; ended = false }
+whole_line b f = record { line = then_some (not f.passing) (span (at_of b f) (end_of b f)); at = end_of b f + 1; filled = filled_of b f; passing = false; ended = false }
 
 -- a line too long for the buffer is given as an empty one, and its rest is passed over
 abbrev pub too_long : Feed
-too_long = record { given = true; start = 0; end = 0; at = 0; filled = 0; passing = true; ended = false }
+too_long = record { line = Some (span 0 0); at = 0; filled = 0; passing = true; ended = false }
 
 -- how many bytes are held where there is no line end: none of a line that is passed over
 abbrev pub held_of : List ℕ → Feed → ℕ
@@ -73,13 +79,11 @@ pub record Turn (b : List ℕ) (f : Feed) (a : List ℕ) (r : Feed) : Type 0 whe
   pub gives : r ≡ turn_of b f r.filled
   pub sure : Begins (sure_of b f) a
   pub fits : r.filled ≤ length b
-  pub ordered : r.start ≤ r.end
-  pub within : r.end ≤ length b
+  pub placed : IfSome r.line (λ l. (l.start ≤ l.end) × (l.end ≤ length b))
 
 -- a read after the bytes held
 pub record Reading (b : List ℕ) (held : ℕ) (passing : Bool) (a : List ℕ) (r : Feed) : Type 0 where
   pub gives : r ≡ after_read held passing r.filled
   pub sure : take held a ≡ take held b
   pub fits : r.filled ≤ length b
-  pub ordered : r.start ≤ r.end
-  pub within : r.end ≤ length b
+  pub placed : IfSome r.line (λ l. (l.start ≤ l.end) × (l.end ≤ length b))

@@ -1,8 +1,6 @@
 -- Decimal numbers as text. Assumes nothing.
-use Rattle.std.specs.Prelude.{ℕ, zero, suc, ◌+◌, ◌-◌, ◌*◌, ◌/◌, ◌^◌, Bool, true, cond, ◌&&◌, List, [], ◌∷◌, leb, ltb}
+use Rattle.std.specs.Prelude.{ℕ, zero, suc, ◌+◌, ◌-◌, ◌*◌, ◌/◌, ◌^◌, Bool, true, cond, ◌&&◌, List, [], ◌∷◌, Option, Some, None, leb, ltb}
 use Rattle.io.specs.Digits.{last_digits}
-use Rattle.text.specs.declared.Number.{Number}
-use Rattle.text.specs.declared.Number.TheVariants.{Is, Not}
 
 -- whether a byte is one of `0` to `9`
 abbrev pub is_digit : ℕ → Bool
@@ -18,12 +16,12 @@ after n [] = n
 after n (b ∷ w) = after (n * 10 + (b - 48)) w
 
 -- the digits w after the number n: a number below 2^64, or none
-abbrev pub number_after : ℕ → List ℕ → Number
-number_after n w = cond (all_digits w && ltb (after n w) (2 ^ 64)) (Is (after n w)) Not
+abbrev pub number_after : ℕ → List ℕ → Option ℕ
+number_after n w = cond (all_digits w && ltb (after n w) (2 ^ 64)) (Some (after n w)) None
 
 -- a word as a number: digits, at least one, and below 2^64
-abbrev pub number_of : List ℕ → Number
-number_of [] = Not
+abbrev pub number_of : List ℕ → Option ℕ
+number_of [] = None
 number_of (b ∷ w) = number_after 0 (b ∷ w)
 
 -- how many decimal digits n has, counted up to f + 1

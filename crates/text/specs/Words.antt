@@ -1,10 +1,8 @@
 -- The words of a line, the numbers that they mean, and a list of commands. Assumes nothing.
-use Rattle.std.specs.Prelude.{ℕ, ◌+◌, ◌-◌, ◌^◌, Bool, true, false, cond, ◌&&◌, List, [], ◌∷◌, ◌++◌, length, take, drop, eqb, ltb}
+use Rattle.std.specs.Prelude.{ℕ, ◌+◌, ◌-◌, ◌^◌, Bool, true, false, cond, ◌&&◌, List, [], ◌∷◌, ◌++◌, Option, Some, None, length, take, drop, eqb, ltb}
 use Prim.Native.Char.{code}
 use Prim.Native.String as string
 use Rattle.text.specs.Bytes.{index_of}
-use Rattle.text.specs.declared.Number.{Number}
-use Rattle.text.specs.declared.Number.TheVariants.{Is, Not}
 use Rattle.text.specs.Numbers.{number_of}
 
 -- ---- words
@@ -49,9 +47,9 @@ same (a ∷ v) (b ∷ w) = eqb a b && same v w
 
 -- ---- numbers
 
-abbrev pub before : Number → List ℕ → List ℕ
-before (Is n) ns = n ∷ ns
-before Not ns = []
+abbrev pub before : Option ℕ → List ℕ → List ℕ
+before (Some n) ns = n ∷ ns
+before None ns = []
 
 -- the numbers that words mean, up to the first word that means none
 abbrev pub numbers_in : List (List ℕ) → List ℕ
@@ -76,16 +74,10 @@ fronted ns b = ns ++ drop (length ns) b
 
 -- ---- a list of commands, each a word and how many numbers it takes
 
-abbrev pub takes_as : Number → ℕ → Bool
-takes_as (Is m) n = eqb m n
-takes_as Not n = true
+abbrev pub takes_as : Option ℕ → ℕ → Bool
+takes_as (Some m) n = eqb m n
+takes_as None n = true
 
 -- whether a command listed with the word t takes n numbers: so many as t says, and any where t is no number
 abbrev pub takes : List ℕ → ℕ → Bool
 takes t n = takes_as (number_of t) n
-
--- the place, counted from i, of the command with the word w and n numbers among the listed; `none` where it is none of them
-abbrev pub place_from : ℕ → List ℕ → ℕ → List (List ℕ) → ℕ
-place_from i w n [] = none
-place_from i w n (c ∷ []) = none
-place_from i w n (c ∷ t ∷ cs) = cond (same w c && takes t n) i (place_from (i + 1) w n cs)

@@ -2,21 +2,25 @@
 ghost use Rattle.std.specs.Prelude.{◌≡◌, ◌-◌, ◌≤◌, length, replicate};
 ghost use Rattle.text.specs.Lines.{at_first, line_of, moved, Reading, Turn};
 
-use crate::words::least;
 use std::io::Read;
 
-const LINE_END: u8 = 10;
+const LINE_END: u8 = b'\n';
 
 // Room for a line and its end: a line that fills it is too long.
 const ROOM: usize = 262144;
 
-// What a turn leaves: a line from `start` to `end`, if one is given; the bytes from `at` to `filled`, still to be looked at; whether they are the
+// A part of the buffer: the bytes from `start` to `end`.
+#[derive(Clone, Copy)]
+pub struct Span {
+    pub start: usize,
+    pub end: usize,
+}
+
+// What a turn leaves: where a line stands, if one is given; the bytes from `at` to `filled`, still to be looked at; whether they are the
 // rest of a line too long for the buffer; whether the input has ended.
 #[derive(Clone, Copy)]
 pub struct Feed {
-    pub given: bool,
-    pub start: usize,
-    pub end: usize,
+    pub line: Option<Span>,
     pub at: usize,
     pub filled: usize,
     pub passing: bool,
@@ -30,14 +34,12 @@ pub fn room() -> [u8; ROOM]
     [0; ROOM]
 }
 
-// The line that a turn gives.
-pub fn line(input: &[u8], f: Feed) -> &[u8]
-    requires { (f.start ≤ f.end) × (f.end ≤ length input.now) }
-    ensures { result.now ≡ line_of input.now f }
+// The line that stands there.
+pub fn line(input: &[u8], at: Span) -> &[u8]
+    requires { (at.start ≤ at.end) × (at.end ≤ length input.now) }
+    ensures { result.now ≡ line_of input.now at }
 {
-    let start = f.start;
-    let end = f.end;
-    &input[start..end]
+    &input[at.start..at.end]
 }
 
 // Before the first turn.
@@ -45,9 +47,7 @@ pub fn none() -> Feed
     ensures { result ≡ at_first }
 {
     Feed {
-        given: false,
-        start: 0,
-        end: 0,
+        line: None,
         at: 0,
         filled: 0,
         passing: false,
@@ -59,16 +59,14 @@ pub fn none() -> Feed
 pub fn next<R: Read>(reader: &mut R, input: &mut [u8], f: Feed) -> Feed
     ensures { Turn input.old f input.new result }
 {
-    let filled = least(f.filled, input.len());
-    let at = least(f.at, filled);
-    let end = crate::find(input, at, filled, LINE_END);
+    let filled = f.filled.min(input.len());
+    let at = f.at.min(filled);
+    let end = at + crate::find(&input[at..filled], LINE_END);
     if end < filled {
         return Feed {
-            given: !f.passing,
-            start: at,
-            end: end,
+            line: (!f.passing).then_some(Span { start: at, end }),
             at: end + 1,
-            filled: filled,
+            filled,
             passing: false,
             ended: false,
         };
@@ -79,9 +77,7 @@ pub fn next<R: Read>(reader: &mut R, input: &mut [u8], f: Feed) -> Feed
     let held = shift(input, at, filled);
     if held == input.len() {
         return Feed {
-            given: true,
-            start: 0,
-            end: 0,
+            line: Some(Span { start: 0, end: 0 }),
             at: 0,
             filled: 0,
             passing: true,
@@ -99,9 +95,10 @@ fn more<R: Read>(reader: &mut R, input: &mut [u8], held: usize, passing: bool) -
     let n = read(reader, &mut input[held..]);
     if n == 0 {
         return Feed {
-            given: 0 < held,
-            start: 0,
-            end: held,
+            line: (0 < held).then_some(Span {
+                start: 0,
+                end: held,
+            }),
             at: 0,
             filled: 0,
             passing: false,
@@ -109,12 +106,10 @@ fn more<R: Read>(reader: &mut R, input: &mut [u8], held: usize, passing: bool) -
         };
     }
     Feed {
-        given: false,
-        start: 0,
-        end: 0,
+        line: None,
         at: 0,
         filled: held + n,
-        passing: passing,
+        passing,
         ended: false,
     }
 }
@@ -123,10 +118,7 @@ fn more<R: Read>(reader: &mut R, input: &mut [u8], held: usize, passing: bool) -
 fn read<R: Read>(reader: &mut R, into: &mut [u8]) -> usize
     ensures { result ≤ length into.old }
 {
-    match reader.read(into) {
-        Ok(n) => n,
-        Err(_) => 0,
-    }
+    reader.read(into).unwrap_or(0)
 }
 
 // Moves the bytes between two places to the front, and counts them.
@@ -135,10 +127,9 @@ fn shift(input: &mut [u8], from: usize, to: usize) -> usize
     ensures { (result ≡ to - from) × (input.new ≡ moved from (to - from) input.old) }
 {
     let n = to - from;
-    let mut i = 0;
-    while i < n {
+    // By index: the wrong answer `first_byte_moved_again` changes one byte's place, and `copy_within` names none.
+    for i in 0..n {
         input[i] = input[from + i];
-        i += 1;
     }
     n
 }

@@ -6,120 +6,78 @@ pub mod hex;
 pub mod prints;
 pub mod words;
 
-ghost use Rattle.std.specs.Prelude.{◌≡◌, ◌+◌, ◌≤◌, ◌<◌, length};
-ghost use Rattle.text.specs.Bytes.{index_of, slice};
-ghost use Rattle.io.specs.Digits.{hex_digit_ascii as Digits·glyph};
-ghost use Rattle.text.specs.Words.{word_end, same};
-ghost use Rattle.text.specs.Numbers.{number_of, spelled};
-ghost use Rattle.text.specs.Hex.{meant, pair_of, spelled_byte};
+ghost use Rattle.std.specs.Prelude.{◌≡◌, ◌==◌, position, ◌+◌, ◌≤◌, ◌<◌, length, unwrap_or, IfSome};
+ghost use Rattle.text.specs.Bytes.{index_of};
+ghost use Rattle.text.specs.Words.{word_end};
+ghost use Rattle.text.specs.Numbers.{number_of};
+ghost use Rattle.text.specs.Hex.{meant, pair_of};
 ghost use Rattle.text.specs.Written.{written, next};
 
-const BLANK: u8 = 32;
-
-// The most decimal digits of a number.
-const DIGITS: usize = 20;
-
-// What a word is as a decimal number.
-#[derive(Drop)]
-pub enum Number {
-    Is(u64),
-    Not,
-}
-
-// What two bytes are as hexadecimal digits.
-#[derive(Drop)]
-pub enum Byte {
-    Is(u8),
-    Not,
-}
+const BLANK: u8 = b' ';
 
 // The end of the word that starts at byte `at`.
 pub fn end(line: &[u8], at: usize) -> usize
     requires { at ≤ length line.now }
     ensures { (result ≡ word_end line.now at) × (at ≤ result) × (result ≤ length line.now) }
 {
-    find(line, at, line.len(), BLANK)
+    at + find(&line[at..], BLANK)
 }
 
-// The place of the first byte `b` between two places; the second of them where there is none.
-fn find(s: &[u8], from: usize, to: usize, b: u8) -> usize
-    requires { (from ≤ to) × (to ≤ length s.now) }
-    ensures { (result ≡ from + index_of b (slice from to s.now)) × (from ≤ result) × (result ≤ to) }
+// The place of the first byte `b`, and the length where there is none.
+fn find(s: &[u8], b: u8) -> usize
+    ensures { (result ≡ index_of b s.now) × (result ≤ length s.now) }
 {
-    let mut i = from;
-    while i < to {
-        if s[i] == b {
-            return i;
-        }
-        i += 1;
-    }
-    to
+    place(s, b).unwrap_or(s.len())
 }
 
-// Whether a word is the given one.
-pub fn is(word: &[u8], given: &[u8]) -> bool
-    ensures { result ≡ same word.now given.now }
+// The same, if there is one.
+fn place(s: &[u8], b: u8) -> Option<usize>
+    ensures { result ≡ position (λ x. x == b) s.now }
 {
-    check::same(word, given)
+    s.iter().position(|x| *x == b)
 }
 
-// The number that a word of digits means.
-pub fn decimal(word: &[u8]) -> Number
+// The number that a word of digits means, if it means one. By hand, since `parse` takes a plus sign too.
+pub fn decimal(word: &[u8]) -> Option<u64>
     ensures { result ≡ number_of word.now }
 {
-    if word.len() == 0 {
-        return Number::Not;
+    if word.is_empty() {
+        return None;
     }
     let mut n: u64 = 0;
-    let mut i = 0;
-    while i < word.len() {
-        let b = word[i];
-        if b < 48 {
-            return Number::Not;
-        }
-        if 57 < b {
-            return Number::Not;
-        }
-        let d = wide(b) - 48;
+    for &b in word {
+        let b'0'..=b'9' = b else {
+            return None;
+        };
+        let digit = b - b'0';
+        let d = u64::from(digit);
         if (u64::MAX - d) / 10 < n {
-            return Number::Not;
+            return None;
         }
         n = n * 10 + d;
-        i += 1;
     }
-    Number::Is(n)
+    Some(n)
 }
 
-// A byte as a number.
-fn wide(b: u8) -> u64
-    ensures { (result ≡ b) × (result < 256) }
+// What a hexadecimal digit means, if it is one.
+fn digit(b: u8) -> Option<u8>
+    ensures meant { unwrap_or result 16 ≡ meant b }
+    ensures below { IfSome result (λ d. d < 16) }
 {
-    b as u64
+    match b {
+        b'0'..=b'9' => Some(b - b'0'),
+        b'a'..=b'f' => Some(b - b'a' + 10),
+        _ => None,
+    }
 }
 
-// What a hexadecimal digit means, and 16 for any other byte.
-fn digit(b: u8) -> u8
-    ensures { (result ≡ meant b) × (result ≤ 16) }
-{
-    if (48 <= b) & (b <= 57) {
-        return b - 48;
-    }
-    if (97 <= b) & (b <= 102) {
-        return b - 87;
-    }
-    16
-}
-
-// The byte that two hexadecimal digits mean.
-pub fn pair(a: u8, b: u8) -> Byte
+// The byte that two hexadecimal digits mean, if they mean one.
+pub fn pair(a: u8, b: u8) -> Option<u8>
     ensures { result ≡ pair_of a b }
 {
-    let high = digit(a);
-    let low = digit(b);
-    if (high < 16) & (low < 16) {
-        return Byte::Is(16 * high + low);
-    }
-    Byte::Not
+    let high = digit(a)?;
+    let low = digit(b)?;
+    Some(16 * high + low)
 }
 
 // Writes the text from byte `at` on, where it fits, and gives the place after it.
@@ -136,29 +94,4 @@ pub fn put(out: &mut [u8], at: usize, text: &[u8]) -> usize
     let end = at + n;
     out[at..end].copy_from_slice(text);
     end
-}
-
-// Writes a number's decimal digits.
-pub fn put_number(out: &mut [u8], at: usize, n: u64) -> usize
-    ensures { (result ≡ next out.old at (spelled n)) × (out.new ≡ written out.old at (spelled n)) }
-{
-    let mut text = [0u8; DIGITS];
-    let k = io::decimal(n, &mut text);
-    put(out, at, &text[..k])
-}
-
-// The hexadecimal digit of a number below 16.
-fn glyph(d: u8) -> u8
-    requires { d < 16 }
-    ensures { result ≡ Digits·glyph d }
-{
-    if d < 10 { 48 + d } else { 87 + d }
-}
-
-// Writes a byte's two hexadecimal digits.
-pub fn put_byte(out: &mut [u8], at: usize, b: u8) -> usize
-    ensures { (result ≡ next out.old at (spelled_byte b)) × (out.new ≡ written out.old at (spelled_byte b)) }
-{
-    let text = [glyph(b / 16), glyph(b % 16)];
-    put(out, at, &text)
 }

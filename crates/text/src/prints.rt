@@ -1,130 +1,64 @@
-// Answers on standard output, part after part.
-ghost use Rattle.std.specs.Prelude.{◌<◌, ◌≤◌};
+// Answers on standard output, each line by one call; where output fails, the program goes on.
+ghost use Rattle.std.specs.Prelude.{Some};
+ghost use Rattle.text.specs.Printed.{each_spelled, bytes_spelled};
 
-use crate::DIGITS;
-use crate::words::least;
-
-// The descriptor of standard output.
-const STDOUT_FILENO: i32 = 1;
-
-// How many bytes are written at once in hexadecimal.
-const PART: usize = 1024;
-
-// Text as it is.
-pub fn say(text: &[u8]) {
-    io::write_all(STDOUT_FILENO, text);
-}
-
-// A number.
-pub fn number(n: u64) {
-    io::print_decimal(STDOUT_FILENO, n);
-}
-
-// A blank and a number.
-pub fn also(n: u64) {
-    let mut space = [0u8; DIGITS + 1];
-    let out: &mut [u8] = &mut space;
-    let blank = crate::put(out, 0, b" ");
-    let end = least(crate::put_number(out, blank, n), out.len());
-    let whole = &out[..];
-    say(&whole[0..end]);
-}
-
-// The number and the entry that an answer begins with.
-pub fn verdict(number: usize, entry: usize) {
-    io::print_decimal(STDOUT_FILENO, number as u64);
-    also(entry as u64);
-}
+use std::fmt;
 
 // Values, each after a blank.
-pub fn values(list: &[u64]) {
-    let mut i = 0;
-    while i < list.len() {
-        also(list[i]);
-        i += 1;
-    }
-}
+#[derive(Drop)]
+pub struct Values<'a>(pub &'a [u64]);
 
-// The first `count` of small values, such as sectors, each after a blank.
-pub fn first(list: &[u8], count: usize) {
-    let n = least(count, list.len());
-    let mut i = 0;
-    while i < n {
-        also(crate::wide(list[i]));
-        i += 1;
+impl fmt::Display for Values<'_> {
+    ghost output = { λ x. Some (each_spelled x.0.now) };
+
+    fn fmt<W: fmt::Write>(&self, f: &mut fmt::Formatter<W>) -> fmt::Result {
+        for &n in self.0 {
+            write!(f, " {n}")?;
+        }
+        Ok(())
     }
 }
 
 // Bytes in hexadecimal, `-` where there are none.
-pub fn bytes(list: &[u8]) {
-    if list.len() == 0 {
-        say(b"-");
-    }
-    let mut from = 0;
-    while from < list.len() {
-        let to = part_end(from, list.len());
-        part(&list[from..to]);
-        from = to;
+#[derive(Drop)]
+pub struct Hex<'a>(pub &'a [u8]);
+
+impl fmt::Display for Hex<'_> {
+    ghost output = { λ x. Some (bytes_spelled x.0.now) };
+
+    fn fmt<W: fmt::Write>(&self, f: &mut fmt::Formatter<W>) -> fmt::Result {
+        if self.0.is_empty() {
+            return write!(f, "-");
+        }
+        for &b in self.0 {
+            let (high, low) = (b / 16, b % 16);
+            write!(f, "{high:x}{low:x}")?;
+        }
+        Ok(())
     }
 }
 
-// Where a part that starts at `from` ends.
-fn part_end(from: usize, all: usize) -> usize
-    requires { from < all }
-    ensures { (from < result) × (result ≤ all) }
-{
-    if all - from < PART { all } else { from + PART }
-}
-
-// So many bytes at once.
-fn part(list: &[u8]) {
-    let mut space = [0u8; 2 * PART];
-    let out: &mut [u8] = &mut space;
-    let mut at = 0;
-    let mut i = 0;
-    while i < list.len() {
-        at = crate::put_byte(out, at, list[i]);
-        i += 1;
-    }
-    let end = least(at, out.len());
-    let whole = &out[..];
-    say(&whole[0..end]);
-}
-
-// The end of a line.
-pub fn end() {
-    say(b"\n");
+// A line.
+pub fn line<R: Print, D: fmt::Display + Drop>(rt: &R, text: D) {
+    let _ = rt.println(text);
 }
 
 // The answer to a line that is not understood.
-pub fn unknown() {
-    say(b"?\n");
+pub fn unknown<R: Print>(rt: &R) {
+    line(rt, "?");
 }
 
-// A whole answer: the number and the entry.
-pub fn plain(number: usize, entry: usize) {
-    verdict(number, entry);
-    end();
+// A whole answer: the number and the entry. This and the two below take them apart, since this crate stands on none of the card, and so has no `Refusal`.
+pub fn plain<R: Print>(rt: &R, number: usize, entry: usize) {
+    line(rt, format_args!("{number} {entry}"));
 }
 
 // A whole answer: the number, the entry and values.
-pub fn valued(number: usize, entry: usize, list: &[u64]) {
-    verdict(number, entry);
-    values(list);
-    end();
+pub fn valued<R: Print>(rt: &R, number: usize, entry: usize, list: &[u64]) {
+    line(rt, format_args!("{number} {entry}{}", Values(list)));
 }
 
 // A whole answer: the number, the entry and bytes.
-pub fn encoded(number: usize, entry: usize, list: &[u8]) {
-    verdict(number, entry);
-    say(b" ");
-    bytes(list);
-    end();
-}
-
-// A whole answer: the number, the entry and the first `count` of small values.
-pub fn counted(number: usize, entry: usize, list: &[u8], count: usize) {
-    verdict(number, entry);
-    first(list, count);
-    end();
+pub fn encoded<R: Print>(rt: &R, number: usize, entry: usize, list: &[u8]) {
+    line(rt, format_args!("{number} {entry} {}", Hex(list)));
 }

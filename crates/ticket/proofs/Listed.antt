@@ -8,8 +8,6 @@ use Prim.Native.Nat.{ℕ, zero, suc, ◌-◌, ◌*◌, ◌≤◌}
 use native.Mathlib.Omega.{arith}
 use borrow.Author.Tests.{eqb-true}
 use lib.Dec.{eqb}
-use lib.ListN.{length, take}
-use lib.Seq.{length-take-le}
 use Rattle.rules.specs.Claim.{Claim, ◌≡?◌, ◌≤?◌, ◌and◌, Means}
 use Rattle.rules.specs.First.{holds}
 use Rattle.rules.proofs.ClaimLaws.{and-true, holds_means}
@@ -21,8 +19,7 @@ use Rattle.fields.specs.Padded.{most}
 use Rattle.ticket.specs.Kind.{Row, row_of, kinds, form_among, form_in, row_by, kind_of, count_of, least_of, rest_of, listed}
 use Rattle.ticket.specs.declared.kinds.Kind.{Kind}
 use Rattle.ticket.specs.declared.kinds.Kind.TheVariants.{Typ23, Typ22r1, Typ22r2, Typ22r3}
-use Rattle.ticket.specs.declared.kinds.Form.{Form}
-use Rattle.ticket.specs.declared.kinds.Form.TheVariants.{Ticket, Other}
+use Rattle.std.specs.Prelude.{Option, Some, None}
 
 -- two bytes of a header before its fields, all within the first thirty-two bytes and the room in memory, its fields whole bytes, which the least length holds
 pub record Facts (k : Layout) : Type 0 where
@@ -60,7 +57,7 @@ row_claims k =
     and (nth (list_of k.layout) (k.expiry - 1)).1 ≡? 11
 
 -- the test of a row: its facts, and that it is the one of its TYP and revision
-row_tested : (k : Kind) → (holds (row_claims (row_of k)) ≡ true) × (form_in (row_of k).typ (row_of k).revision ≡ Ticket k)
+row_tested : (k : Kind) → (holds (row_claims (row_of k)) ≡ true) × (form_in (row_of k).typ (row_of k).revision ≡ Some k)
 unfolding form_in
 row_tested Typ23 = (refl, refl)
 row_tested Typ22r1 = (refl, refl)
@@ -85,32 +82,27 @@ row_is k =
 pub row_facts : (k : Kind) → Facts (row_of k).layout
 row_facts k = (row_is k).facts
 
--- as many values as the list has, of a record in memory
-pub own-fits : (k : Kind) {l : Layout} {n : ℕ} (vs : List ℕ) → length vs ≡ 25 → l ≡ (row_of k).layout → n ≡ count_of (row_of k).layout
-    → (length (take n vs) ≡ length (list_of l)) × (bit_after l ≤ 232)
-own-fits k vs m e n = let f = row_facts k in rw (e, n) (length-take-le (count_of (row_of k).layout) vs (omega arith), f.ends)
-
-pub form_facts : (f : Form) → Facts (row_by f).layout
-form_facts (Ticket k) = row_facts k
-form_facts Other = tested (holds_means (claims layout.Unlisted) refl)
+pub form_facts : (f : Option Kind) → Facts (row_by f).layout
+form_facts (Some k) = row_facts k
+form_facts None = tested (holds_means (claims layout.Unlisted) refl)
 
 pub kind_facts : (t r : ℕ) → Facts (kind_of t r).layout
 kind_facts t r = form_facts (form_in t r)
 
 module _ (t r : ℕ) where
-  pub listed-form : {k : Kind} → form_in t r ≡ Ticket k → Means (listed (kind_of t r).layout)
+  pub listed-form : {k : Kind} → form_in t r ≡ Some k → Means (listed (kind_of t r).layout)
   listed-form {k} e = rw e (row_is k).some
 
-  pub other-form-unlisted : form_in t r ≡ Other → Means (listed (kind_of t r).layout) → ⊥
+  pub other-form-unlisted : form_in t r ≡ None → Means (listed (kind_of t r).layout) → ⊥
   other-form-unlisted e m = let z : 1 ≤ 0 = (rw e at m) in omega arith
 
   -- a kind that is listed is a row of the table
-  pub form-listed : Means (listed (kind_of t r).layout) → (k : Kind) × (form_in t r ≡ Ticket k)
+  pub form-listed : Means (listed (kind_of t r).layout) → (k : Kind) × (form_in t r ≡ Some k)
   form-listed m = go (form_in t r) refl
     where
-      go : (f : Form) → form_in t r ≡ f → (k : Kind) × (form_in t r ≡ Ticket k)
-      go (Ticket k) e = (k, e)
-      go Other e = absurd (other-form-unlisted e m)
+      go : (f : Option Kind) → form_in t r ≡ f → (k : Kind) × (form_in t r ≡ Some k)
+      go (Some k) e = (k, e)
+      go None e = absurd (other-form-unlisted e m)
 
   pub expiry-in : Means (listed (kind_of t r).layout)
       → (1 ≤ (kind_of t r).expiry)
@@ -124,22 +116,22 @@ module _ (t r : ℕ) where
 -- ---- which TYP and revision
 
 -- a TYP and revision of the table have its row, and no others have
-pub row_form : (k : Kind) → form_in (row_of k).typ (row_of k).revision ≡ Ticket k
+pub row_form : (k : Kind) → form_in (row_of k).typ (row_of k).revision ≡ Some k
 row_form k = (row_tested k).1
 
-among : (t r : ℕ) (ks : List Kind) {k : Kind} → form_among t r ks ≡ Ticket k → (t ≡ (row_of k).typ) × (r ≡ (row_of k).revision)
+among : (t r : ℕ) (ks : List Kind) {k : Kind} → form_among t r ks ≡ Some k → (t ≡ (row_of k).typ) × (r ≡ (row_of k).revision)
 among t r [] e = let z : ◌≡◌ {A = ℕ} 0 1 = cc in absurd (omega arith)
 among t r (j ∷ ks) {k} e = go (eqb t (row_of j).typ && eqb r (row_of j).revision) refl e (among t r ks)
   where
-    go : (b : Bool) → (eqb t (row_of j).typ && eqb r (row_of j).revision) ≡ b → cond b (Ticket j) (form_among t r ks) ≡ Ticket k
-        → (form_among t r ks ≡ Ticket k → (t ≡ (row_of k).typ) × (r ≡ (row_of k).revision)) → (t ≡ (row_of k).typ) × (r ≡ (row_of k).revision)
+    go : (b : Bool) → (eqb t (row_of j).typ && eqb r (row_of j).revision) ≡ b → cond b (Some j) (form_among t r ks) ≡ Some k
+        → (form_among t r ks ≡ Some k → (t ≡ (row_of k).typ) × (r ≡ (row_of k).revision)) → (t ≡ (row_of k).typ) × (r ≡ (row_of k).revision)
     go true q e ih =
         let p = and-true (eqb t (row_of j).typ) (eqb r (row_of j).revision) q in
         let s : j ≡ k = cc in
         rw (← s) (eqb-true t (row_of j).typ p.0, eqb-true r (row_of j).revision p.1)
     go false q e ih = ih e
 
-pub form-row : (t r : ℕ) {k : Kind} → form_in t r ≡ Ticket k → (t ≡ (row_of k).typ) × (r ≡ (row_of k).revision)
+pub form-row : (t r : ℕ) {k : Kind} → form_in t r ≡ Some k → (t ≡ (row_of k).typ) × (r ≡ (row_of k).revision)
 unfolding form_in
 form-row t r e = among t r kinds e
 

@@ -24,7 +24,7 @@ use Rattle.fields.specs.Lists.{list_of, bit_after}
 use Rattle.fields.specs.Fields.{fields, stores, fit, fit_rules}
 use Rattle.fields.specs.Packed.{pack_number, packed, pack_in}
 use Rattle.fields.proofs.Joined.{lists-joined}
-use Rattle.fields.proofs.Laws.{fields-stores, stores_onto, field-before, fit-fields, length-stores, bytes-stores, length_fields}
+use Rattle.fields.proofs.Laws.{fields-stores, stores_onto, field-before, fit-fields, length-stores, bytes-stores}
 use Rattle.fields.proofs.Only.{joined-inside}
 use Rattle.fields.proofs.Parts.{stores-left}
 use Rattle.fields.proofs.Same.{fields-same}
@@ -33,12 +33,11 @@ use Rattle.ticket.specs.declared.Record.{Record}
 use Rattle.ticket.specs.declared.Encoded.{Encoded}
 use Rattle.ticket.specs.declared.Decoded.{Decoded}
 use Rattle.ticket.specs.declared.kinds.Kind.{Kind}
-use Rattle.ticket.specs.declared.kinds.Form.{Form}
-use Rattle.ticket.specs.declared.kinds.Form.TheVariants.{Ticket, Other}
+use Rattle.std.specs.Prelude.{Option, Some, None}
 use Rattle.ticket.specs.Kind.{row_of, form_in, row_by, kind_of, count_of, rest_of, listed}
 use Rattle.ticket.specs.Ticket.{layout_of, record_rules, record_of, encoded, encode_number, encode_of, record_in, decode_number, decoded_by, decode_of}
 use Rattle.ticket.specs.Memory.{own, held_encoded, held_decoded}
-use Rattle.fields.proofs.Kept.{held_filled}
+use Rattle.fields.specs.Padded.{held}
 use Rattle.ticket.proofs.Listed.{Facts, row_facts, kind_facts}
 use Rattle.ticket.proofs.Steps.{listed-first}
 
@@ -198,15 +197,15 @@ module _ (t : Record) where
   abbrev coded : Layout → Encoded
   coded k = codes k (first (rule 22 (listed k) ∷ fit_rules k (take (count_of k) t.values)))
 
-  encode-by : {f : Form} → form_in t.typ t.revision ≡ f → coded (row_by f).layout ≡ held_encoded (encode_of (own t))
+  encode-by : {f : Option Kind} → form_in t.typ t.revision ≡ f → coded (row_by f).layout ≡ held_encoded (encode_of (own t))
   unfolding encode_number
-  encode-by e = sym (ap (λ (f : Form). coded (row_by f).layout) e)
+  encode-by e = sym (ap (λ (f : Option Kind). coded (row_by f).layout) e)
 
-  pub encode-other : form_in t.typ t.revision ≡ Other → held_encoded (encoded 22 []) ≡ held_encoded (encode_of (own t))
+  pub encode-other : form_in t.typ t.revision ≡ None → held_encoded (encoded 22 []) ≡ held_encoded (encode_of (own t))
   unfolding first
   encode-other e = encode-by e
 
-  module _ {k : Kind} (form : form_in t.typ t.revision ≡ Ticket k) where
+  module _ {k : Kind} (form : form_in t.typ t.revision ≡ Some k) where
     abbrev mine : List ℕ
     mine = take (count_of (row_of k).layout) t.values
 
@@ -238,24 +237,20 @@ module _ (t r : ℕ) (b : List ℕ) where
   abbrev decodes : Layout → Decoded
   decodes k = decodes_as k (first (rule 22 (listed k) ∷ []))
 
-  decode-by : {f : Form} → form_in t r ≡ f → decodes (row_by f).layout ≡ held_decoded (decode_of t r b)
+  decode-by : {f : Option Kind} → form_in t r ≡ f → decodes (row_by f).layout ≡ held_decoded (decode_of t r b)
   unfolding decode_number
-  decode-by e = sym (ap (λ (f : Form). decodes (row_by f).layout) e)
+  decode-by e = sym (ap (λ (f : Option Kind). decodes (row_by f).layout) e)
 
-  pub decode-other : form_in t r ≡ Other → record { number = 22; entry = 0; next = record_of 0 0 (replicate 25 0) } ≡ held_decoded (decode_of t r b)
+  pub decode-other : form_in t r ≡ None → record { number = 22; entry = 0; next = record_of 0 0 (replicate 25 0) } ≡ held_decoded (decode_of t r b)
   unfolding first fields
   decode-other e = decode-by e
 
-  -- the list l read of the bytes a into the first n of zeros
-  pub decode-done : {k : Kind} {a vs : List ℕ} {l : Layout} {n : ℕ} → form_in t r ≡ Ticket k → vs ≡ fields a (list_of l) → a ≡ 0 ∷ 0 ∷ b → l ≡ (row_of k).layout
-      → n ≡ count_of (row_of k).layout → record { number = 0; entry = 0; next = record_of t r (vs ++ drop n (replicate 25 0)) } ≡ held_decoded (decode_of t r b)
+  -- the values read of the bytes a, with zeros after them
+  pub decode-done : {k : Kind} {a vs : List ℕ} → form_in t r ≡ Some k → vs ≡ held (fields a (list_of (row_of k).layout)) → a ≡ 0 ∷ 0 ∷ b
+      → record { number = 0; entry = 0; next = record_of t r vs } ≡ held_decoded (decode_of t r b)
   unfolding first
-  decode-done {k} {n = n} form p q e m =
-      let f = row_facts k in
-      let ls = list_of (row_of k).layout in
-      let bs : List ℕ = 0 ∷ 0 ∷ b in
+  decode-done {k} form p q =
       ap (λ (xs : List ℕ). record { number = 0; entry = 0; next = record_of t r xs })
-      (ap (λ (xs : List ℕ). xs ++ drop n (replicate 25 0)) (p ∙ ap₂ (λ (x : List ℕ) (y : Layout). fields x (list_of y)) q e)
-      ∙ held_filled (fields bs ls) n (length_fields bs ls ∙ sym m) (omega arith))
+      (p ∙ ap (λ (x : List ℕ). held (fields x (list_of (row_of k).layout))) q)
       ∙ ap (decodes_as (row_of k).layout) (sym (listed-first k []))
       ∙ decode-by form

@@ -8,6 +8,8 @@ use Prim.Native.Nat.{ℕ, zero, suc, ◌-◌}
 use native.Mathlib.Omega.{arith}
 use lib.ListN.{length, get_or, set, take, replicate}
 use lib.Seq.{get_or-take, length-take-le}
+use Rattle.rules.specs.declared.Reason.{Reason}
+use Rattle.rules.specs.Reasons.{number}
 use Rattle.rules.specs.First.{holds, first}
 use Rattle.rules.specs.Claim.{Rule, rule, Answers}
 use Rattle.rules.proofs.ClaimLaws.{Numbered, holds_means, means-holds}
@@ -19,9 +21,7 @@ use Rattle.ticket.specs.declared.Record.{Record}
 use Rattle.ticket.specs.declared.Changed.{Changed}
 use Rattle.ticket.specs.declared.Value.{Value}
 use Rattle.ticket.specs.declared.kinds.Kind.{Kind}
-use Rattle.ticket.specs.declared.kinds.Form.{Form}
-use Rattle.ticket.specs.declared.kinds.Form.TheVariants.{Ticket, Other}
-use Rattle.ticket.specs.declared.Slot.TheVariants.{At, Refused}
+use Rattle.std.specs.Prelude.{Option, Some, None, Ok, Err}
 use Rattle.ticket.specs.Kind.{row_of, form_in, row_by, count_of, listed, field_rule, set_rules}
 use Rattle.ticket.specs.Checks.{slot_in}
 use Rattle.ticket.specs.Ticket.{layout_of, record_rules, record_of, changed, with, set_number, value_number, next_of, set_of, value_if, value_of}
@@ -97,28 +97,28 @@ module _ (t : Record) (n v : ℕ) where
   abbrev stepped : Layout → Changed
   stepped k = steps k (first (rule 22 (listed k) ∷ set_rules k n v))
 
-  set-by : {f : Form} → form_in t.typ t.revision ≡ f → stepped (row_by f).layout ≡ held_changed (set_of (own t) n v)
+  set-by : {f : Option Kind} → form_in t.typ t.revision ≡ f → stepped (row_by f).layout ≡ held_changed (set_of (own t) n v)
   unfolding set_number
-  set-by e = sym (ap (λ (f : Form). stepped (row_by f).layout) e)
+  set-by e = sym (ap (λ (f : Option Kind). stepped (row_by f).layout) e)
 
-  pub set_other : form_in t.typ t.revision ≡ Other → changed 22 (record_of t.typ t.revision (replicate 25 0)) ≡ held_changed (set_of (own t) n v)
+  pub set_other : form_in t.typ t.revision ≡ None → changed 22 (record_of t.typ t.revision (replicate 25 0)) ≡ held_changed (set_of (own t) n v)
   unfolding first
   set_other e = set-by e
 
-  module _ {k : Kind} (form : form_in t.typ t.revision ≡ Ticket k) where
+  module _ {k : Kind} (form : form_in t.typ t.revision ≡ Some k) where
     abbrev mine : List ℕ
     mine = take (count_of (row_of k).layout) t.values
 
     set_is : (m : ℕ) → m ≡ first (set_rules (row_of k).layout n v) → steps (row_of k).layout m ≡ held_changed (set_of (own t) n v)
     set_is m e = ap (steps (row_of k).layout) (e ∙ sym (listed-first k (set_rules (row_of k).layout n v))) ∙ set-by form
 
-    pub set-refused : {m : ℕ} → slot_in (row_of k).layout n v ≡ Refused m
-        → changed m (record_of t.typ t.revision (held mine)) ≡ held_changed (set_of (own t) n v)
-    set-refused {m} e =
+    pub set-refused : {r : Reason} → slot_in (row_of k).layout n v ≡ Err r
+        → changed (number r) (record_of t.typ t.revision (held mine)) ≡ held_changed (set_of (own t) n v)
+    set-refused {r} e =
         let s = slot-refused (row_of k).layout n v e in
-        ap (λ (r : Record). held_changed (changed m r)) (sym (next-kept m (record_of t.typ t.revision mine) n v s.1)) ∙ set_is m s.0
+        ap (λ (u : Record). held_changed (changed (number r) u)) (sym (next-kept (number r) (record_of t.typ t.revision mine) n v s.1)) ∙ set_is (number r) s.0
 
-    pub set-done : {p : Span} → length t.values ≡ 25 → slot_in (row_of k).layout n v ≡ At p
+    pub set-done : {p : Span} → length t.values ≡ 25 → slot_in (row_of k).layout n v ≡ Ok p
         → changed 0 (record_of t.typ t.revision (set (held mine) (n - 1) v)) ≡ held_changed (set_of (own t) n v)
     set-done {p} len e =
         let s = slot_at (row_of k).layout n v e in
@@ -134,15 +134,15 @@ module _ (t : Record) (n : ℕ) where
   abbrev read : Layout → Value
   read k = reads k (first (rule 22 (listed k) ∷ field_rule k n ∷ []))
 
-  value-by : {f : Form} → form_in t.typ t.revision ≡ f → read (row_by f).layout ≡ value_of (own t) n
+  value-by : {f : Option Kind} → form_in t.typ t.revision ≡ f → read (row_by f).layout ≡ value_of (own t) n
   unfolding value_number
-  value-by e = sym (ap (λ (f : Form). read (row_by f).layout) e)
+  value-by e = sym (ap (λ (f : Option Kind). read (row_by f).layout) e)
 
-  pub value-other : form_in t.typ t.revision ≡ Other → value_if 22 0 ≡ value_of (own t) n
+  pub value-other : form_in t.typ t.revision ≡ None → value_if 22 0 ≡ value_of (own t) n
   unfolding first
   value-other e = value-by e
 
-  module _ {k : Kind} (form : form_in t.typ t.revision ≡ Ticket k) where
+  module _ {k : Kind} (form : form_in t.typ t.revision ≡ Some k) where
     value-is : (m : ℕ) → m ≡ first (field_rule (row_of k).layout n ∷ []) → reads (row_of k).layout m ≡ value_of (own t) n
     value-is m e = ap (reads (row_of k).layout) (e ∙ sym (listed-first k (field_rule (row_of k).layout n ∷ []))) ∙ value-by form
 

@@ -1,5 +1,5 @@
 -- What a kind of ticket is (document 01, "Ticket fields"; T-02; 000, 2.9 and Table 31a), said here and nowhere else. Assumes nothing.
-use Rattle.std.specs.Prelude.{cond, ◌&&◌, List, [], ◌∷◌, ℕ, ◌+◌, ◌-◌, ◌*◌, ◌/◌, eqb, length}
+use Rattle.std.specs.Prelude.{cond, ◌&&◌, List, [], ◌∷◌, ℕ, ◌+◌, ◌-◌, ◌*◌, ◌/◌, eqb, length, Option, Some, None}
 use Rattle.dates.specs.Calendar.{day_of}
 use Rattle.rules.specs.Claim.{Claim, ◌≤?◌, ◌and◌, Rule, rule}
 use Rattle.fields.specs.declared.Layout.{Layout}
@@ -8,8 +8,6 @@ use Rattle.fields.specs.Lists.{list_of, bit_after, nth}
 use Rattle.fields.specs.Fields.{limit_of}
 use Rattle.ticket.specs.declared.kinds.Kind.{Kind}
 use Rattle.ticket.specs.declared.kinds.Kind.TheVariants.{Typ23, Typ22r1, Typ22r2, Typ22r3}
-use Rattle.ticket.specs.declared.kinds.Form.{Form}
-use Rattle.ticket.specs.declared.kinds.Form.TheVariants.{Ticket, Other}
 
 pub record Row : Type 0 where
   -- TYP is the entry's, the format revision the product header's; the list of its places
@@ -32,16 +30,16 @@ row_of Typ22r3 = row 22 3 layout.Typ22r3 7 1
 abbrev pub kinds : List Kind
 kinds = Typ23 ∷ Typ22r1 ∷ Typ22r2 ∷ Typ22r3 ∷ []
 
-abbrev pub form_among : ℕ → ℕ → List Kind → Form  -- the first kind of the list with the TYP t and the revision r
-form_among t r [] = Other
-form_among t r (k ∷ ks) = cond (eqb t (row_of k).typ && eqb r (row_of k).revision) (Ticket k) (form_among t r ks)
+abbrev pub form_among : ℕ → ℕ → List Kind → Option Kind  -- the first kind of the list with the TYP t and the revision r
+form_among t r [] = None
+form_among t r (k ∷ ks) = cond (eqb t (row_of k).typ && eqb r (row_of k).revision) (Some k) (form_among t r ks)
 
-unfoldable pub form_in : ℕ → ℕ → Form
+unfoldable pub form_in : ℕ → ℕ → Option Kind
 form_in t r = form_among t r kinds
 
-abbrev pub row_by : Form → Row  -- what is not listed has no field
-row_by (Ticket k) = row_of k
-row_by Other = row 0 0 layout.Unlisted 0 0
+abbrev pub row_by : Option Kind → Row  -- what is not listed has no field
+row_by (Some k) = row_of k
+row_by None = row 0 0 layout.Unlisted 0 0
 
 abbrev pub kind_of : ℕ → ℕ → Row  -- the row of the TYP t and the revision r
 kind_of t r = row_by (form_in t r)

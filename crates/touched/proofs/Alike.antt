@@ -15,6 +15,7 @@ use Rattle.chains.specs.Chain as C
 use Rattle.chains.proofs.Laws.{one-mark, ends-or-names, view, view-end, view-to}
 use Rattle.rules.proofs.ClaimLaws.{and-true}
 use Rattle.image.specs.Image.{element, sector, joined}
+use Rattle.image.proofs.First.{sectors-head}
 use Rattle.steps.specs.Flags.{alike}
 use Rattle.touched.specs.Together.{same_from}
 
@@ -59,14 +60,10 @@ same_ends {s} {i} {x} {y} {m} {k} t a b = elim (ℕ_discrete x y) [
 
 -- ---- the walk
 
-starts : {f : ℕ → ℕ} {s i m : ℕ} {ss : List ℕ} → Leads f s i ss m → (r : List ℕ) × (ss ≡ i ∷ r)
-starts (last a) = ([], refl)
-starts (C.then {ss = ss} a p) = (ss, refl)
-
 -- chains that start at different sectors are not alike
 starts_apart : {f g : ℕ → ℕ} {s i j m k : ℕ} {ss ts : List ℕ} → Leads f s i ss m → Leads g s j ts k → i ≢ j → alike ss ts ≡ false
 unfolding alike
-starts_apart {i = i} {j = j} p q d = let x = starts p in let y = starts q in rw (x.1, y.1, ne_eqb i j d)
+starts_apart {i = i} {j = j} p q d = let x = sectors-head p in let y = sectors-head q in rw (x.1, y.1, ne_eqb i j d)
 
 -- ---- tests joined
 
@@ -97,10 +94,10 @@ module _ (c d : List ℕ) (n₀ : ℕ) (long : (i : ℕ) → Sector n₀ i → l
   together {i} {m} {k} (suc n) s (last a) (last b) h =
       rw (view-end s (view n₀ i (element c i)) a, eq-eqb i i refl, same_ends s a b, append-nil (sector c i), append-nil (sector d i)) (at-end (same_sector i) (eqb m k))
   together {i} {m} {k} (suc n) s (last a) (C.then b q) h =
-      let x = starts q in
+      let x = sectors-head q in
       rw (ne_eqb (element c i) (element d i) (λ e. ends-or-names s (rw e at a) b), eq-eqb i i refl, x.1) (and-false (same_sector i))
   together {i} {m} {k} (suc n) s (C.then a p) (last b) h =
-      let x = starts p in
+      let x = sectors-head p in
       rw (ne_eqb (element c i) (element d i) (λ e. ends-or-names s b (rw e at a)), eq-eqb i i refl, x.1) (and-false (same_sector i))
   together {i} {m} {k} (suc n) s (C.then {ss = ss} a p) (C.then {ss = ts} b q) h = elim (ℕ_discrete (element c i) (element d i)) [
     | no z ↦ rw (ne_eqb (element c i) (element d i) z, eq-eqb i i refl, starts_apart p q z) (and-false (same_sector i))

@@ -16,11 +16,11 @@ use Rattle.image.specs.Facts.{Facts}
 use Rattle.image.specs.Verdict.{verdict}
 use Rattle.image.specs.Check.{check_of}
 use Rattle.image.specs.declared.Shape.{Shape}
-use Rattle.image.specs.declared.Checked.TheVariants as K
+use Rattle.image.specs.Answer as K
 use Rattle.image.proofs.Accepted.{Open, refused_shut, facts_bounds}
 use Rattle.steps.specs.Flags.{flags_to, touched_answer, touched_flags}
 use Rattle.steps.specs.Touched.{compare_rules}
-use Rattle.touched.specs.Together.{Both, shape_rules}
+use Rattle.touched.specs.Together.{Both, OneShape, shape_rules}
 
 directories : (c d : List ℕ) → S d ≡ S c → B d ≡ B c → copy d ≡ copy c → directory_at d ≡ directory_at c
 unfolding directory_at sector_at
@@ -104,3 +104,6 @@ module _ (c d f : List ℕ) where
       both-shaped z =
           let k = kept-rules z in
           one-shape c d g o p.obeys k.0 k.1.0 k.1.1.0 k.1.1.1.0
+
+      pub one-shape-of : m ≡ 0 → OneShape c d g
+      one-shape-of z = record { accepted = o.number_zero; accepted_after = p.number_zero; shape_after = (both-shaped z).shape_after }

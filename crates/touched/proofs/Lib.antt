@@ -1,5 +1,4 @@
 pub mod Alike
-pub mod Eights
 pub mod Compare
 pub mod Exactly
 pub mod Flags

@@ -1,35 +1,38 @@
 -- What the code of `touched` relies on: what it compares is what the definition compares, sector by sector and entry by entry. Assumes nothing.
-use mathlib.Core.Path.{◌≡◌, refl, sym, ap₂, ◌∙◌}
+use mathlib.Core.Path.{◌≡◌, refl, sym, ap, ap₂, ◌∙◌}
 use mathlib.Core.Logic.{◌≢◌}
-use mathlib.Core.Bool.{Bool, true, false, ◌&&◌}
-use mathlib.Core.List.{List}
+use mathlib.Core.Bool.{Bool, true, false, ◌&&◌, true≢false}
+use mathlib.Core.List.{List, [], ◌∷◌}
 use Prim.Native.Nat.{ℕ, zero, suc, ◌+◌, ◌-◌, ◌*◌, ◌≤◌, ◌<◌}
-use native.Mathlib.Numerals.{add-one}
+use native.Mathlib.Numerals.{add-one, sub-one}
 use native.Mathlib.Omega.{arith}
 use lib.Dec.{eqb}
+use lib.Pointwise.{pointwise}
 use lib.ListN.{length, take, drop, set, length-set}
 use lib.Seq.{take_all, take-suc-set}
 use borrow.Author.Tests.{eq-eqb, ne_eqb}
-use Rattle.bits.specs.Bits.{field, pick}
-use Rattle.chains.specs.Chain.{Sector, fresh, used, blocked, Names}
-use Rattle.chains.specs.Breaks.{zero_met, above_met, comes_back}
+use Rattle.bits.specs.Bits.{field}
+use Rattle.chains.specs.Chain.{Sector}
 use Rattle.chains.specs.Walk.{Link, end, to, bad, link}
+use Rattle.chains.specs.Ended.{link_told}
+use Rattle.chains.specs.declared.packed.Link as code
 use Rattle.chains.specs.Packed.{element_in}
-use Rattle.chains.specs.declared.Table.{Table}
-use Rattle.chains.proofs.Laws.{View, v_end, v_to, v_bad, view, chain-short}
+use Rattle.chains.proofs.Laws.{View, v_to, view, chain-short}
 use Rattle.image.specs.Image.{B, S, element, sector, product}
 use Rattle.image.specs.Verdict.{is_product}
 use Rattle.image.specs.Obeys.{IsProduct}
 use Rattle.image.specs.Shape.{Shaped, table_of, sector_place, entry_place}
 use Rattle.image.specs.declared.Shape.{Shape}
-use Rattle.image.proofs.Exact.{test-product, product-sector}
+use Rattle.image.proofs.Exact.{accepts, test-product, product-sector}
 use Rattle.image.proofs.Stays.{chain_of}
 use Rattle.image.proofs.First.{length-sector}
 use Rattle.image.proofs.Same.{before-directory}
 use Rattle.image.proofs.Shapes.{sector-is, entry-is}
 use Rattle.steps.specs.Touched.{forty}
 use Rattle.steps.specs.Flags.{alike, same_product, kept, flag_of, flags_to}
-use Rattle.touched.specs.Together.{onward, same_from, chains_same, link_next, next_same, Both}
+use Rattle.touched.specs.Together.{onward, same_from, chains_same, linked, Both}
+use Rattle.std.specs.Prelude.{Option, Some, None}
+use Rattle.touched.specs.declared.pair.Pair.{Pair}
 use Rattle.touched.proofs.Alike.{together}
 
 -- ---- one sector and its element, by the shape
@@ -38,23 +41,17 @@ sector_of_lem : {c : List ℕ} {g : Shape} → Shaped c g → (i : ℕ) → take
 unfolding sector
 sector_of_lem {c} s i = ap₂ (λ (n a : ℕ). take n (drop a c)) s.size_is (sector-is s i)
 
-element_of : {c : List ℕ} {g : Shape} {t : Table} → Shaped c g → t ≡ table_of g → (i x : ℕ) → x ≡ element_in c t.first t.psi i → x ≡ element c i
+pub element_of : {c : List ℕ} {g : Shape} → Shaped c g → (i : ℕ) → element_in c (table_of g).first (table_of g).psi i ≡ element c i
 unfolding element
-element_of s k i x e = e ∙ rw (k, s.table_is, s.psi-is)
+element_of s i = rw (s.table_is, s.psi-is)
 
-names-none : {s i x : ℕ} {l : Link} → View s i x l → (Names s i x → ⊥) → 0 ≡ link_next l
-names-none (v_end a) h = refl
-names-none (v_to n) h = absurd (h n)
-names-none (v_bad a) h = refl
-
-names-next : {s i x : ℕ} {l : Link} → View s i x l → x ≢ i → x ≤ s - 3 → 4 ≤ s → x ≡ link_next l
-names-next (v_end (fresh e)) a h k = absurd (a e)
-names-next (v_end (used e)) a h k = absurd (omega arith)
-names-next (v_end (blocked e)) a h k = absurd (omega arith)
-names-next (v_to n) a h k = refl
-names-next (v_bad (zero_met e)) a h k = e
-names-next (v_bad (above_met e)) a h k = absurd (omega arith)
-names-next (v_bad (comes_back e)) a h k = absurd e
+-- equal slices are alike
+pointwise-alike : (xs ys : List ℕ) → pointwise eqb xs ys ≡ alike xs ys
+unfolding alike
+pointwise-alike [] [] = refl
+pointwise-alike [] (y ∷ ys) = refl
+pointwise-alike (x ∷ xs) [] = refl
+pointwise-alike (x ∷ xs) (y ∷ ys) = ap (λ (b : Bool). eqb x y && b) (pointwise-alike xs ys)
 
 module _ {c d : List ℕ} {g : Shape} (b : Both c d g) where
   pub S-is : S d ≡ S c
@@ -72,83 +69,76 @@ module _ {c d : List ℕ} {g : Shape} (b : Both c d g) where
         omega (arith, sector-is b.shape_after i, b.shape_after.size_is, y.directory_in, before-directory d y i (rw b.shape_after.sectors_is at s)),
       )
 
-  module _ (i : ℕ) {a : ℕ} (place : a ≡ sector_place g i) (r : Bool) (q : r ≡ alike (take g.size (drop a c)) (take g.size (drop a d))) where
-    sectors-are : r ≡ alike (sector c i) (sector d i)
-    sectors-are = q ∙ rw place (ap₂ alike (sector_of_lem b.shape i) (sector_of_lem b.shape_after i))
+  pub sectors-are : (i a : ℕ) → a ≡ sector_place g i → alike (take g.size (drop a c)) (take g.size (drop a d)) ≡ alike (sector c i) (sector d i)
+  sectors-are i a e = rw e (ap₂ alike (sector_of_lem b.shape i) (sector_of_lem b.shape_after i))
 
-    pub other-sector : r ≡ false → 256 ≡ next_same c d i
-    unfolding next_same
-    other-sector e = rw (← sectors-are, e)
-
-    module _ {t : Table} (table : t ≡ table_of g) (x y : ℕ) (p : x ≡ element_in c t.first t.psi i) (o : y ≡ element_in d t.first t.psi i) (same : r ≡ true) where
-      x-element : x ≡ element c i
-      x-element = element_of b.shape table i x p
-
-      y-element : y ≡ element d i
-      y-element = element_of b.shape_after table i y o
-
-      pub other-element : x ≢ y → 256 ≡ next_same c d i
-      unfolding next_same
-      other-element h = rw (← sectors-are, same, ne_eqb (element c i) (element d i) (λ e. h (x-element ∙ e ∙ sym y-element)))
-
-      next-is : x ≡ y → link_next (link (S c) i x) ≡ next_same c d i
-      unfolding next_same
-      next-is h = rw (← sectors-are, same, eq-eqb (element c i) (element d i) (sym x-element ∙ h ∙ y-element), ← x-element)
-
-      pub ends_fresh : x ≡ y → x ≡ i → 0 ≡ next_same c d i
-      ends_fresh h e = names-none (view (S c) i x) (λ n. n.other e) ∙ next-is h
-
-      pub ends-marked : x ≡ y → g.sectors - 3 < x → 0 ≡ next_same c d i
-      ends-marked h l = names-none (view (S c) i x) (λ n. omega (arith, n.sector.high, b.shape.sectors_is)) ∙ next-is h
-
-      pub goes_on : x ≡ y → x ≢ i → x ≤ g.sectors - 3 → x ≡ next_same c d i
-      goes_on h a l = names-next (view (S c) i x) a (omega (arith, b.shape.sectors_is)) b.obeys.sectors_least ∙ next-is h
+  -- the same of equal slices
+  pub bytes-same : (i a : ℕ) {r : Bool} → a ≡ sector_place g i → r ≡ pointwise eqb (take (a + g.size - a) (drop a c)) (take (a + g.size - a) (drop a d)) → r ≡ alike (sector c i) (sector d i)
+  bytes-same i a e q =
+      let n : a + g.size - a ≡ g.size = omega arith in
+      q ∙ pointwise-alike (take (a + g.size - a) (drop a c)) (take (a + g.size - a) (drop a d)) ∙ rw n (sectors-are i a e)
 
   -- ---- the walk
 
-  next-sector : (i x : ℕ) → x ≡ next_same c d i → x ≢ 0 → x ≤ 255 → Sector (S c) x
-  unfolding next_same
-  next-sector i x e h k = go (alike (sector c i) (sector d i) && eqb (element c i) (element d i)) (link (S c) i (element c i)) (view (S c) i (element c i)) e
-    where
-      go : (t : Bool) (l : Link) → View (S c) i (element c i) l → x ≡ pick t (link_next l) 256 → Sector (S c) x
-      go false l v e = absurd (omega arith)
-      go true (end m) v e = absurd (h e)
-      go true (to y) (v_to n) e = rw e n.sector
-      go true (bad w) v e = absurd (h e)
+  -- what is told of the element x of sector i, told of the image's
+  pub of-element : (i x : ℕ) {r : code.Link} → x ≡ element c i → r ≡ link_told (link g.sectors i x) → r ≡ link_told (link (S c) i (element c i))
+  of-element i x e h = h ∙ rw (e, b.shape.sectors_is) refl
 
-  pub on-sector : (i x : ℕ) → x ≡ next_same c d i → x ≢ 0 → x ≤ 255 → Sector g.sectors x
-  on-sector i x e h k = rw b.shape.sectors_is (next-sector i x e h k)
+  -- whether sector i and its element are the same in both, and the sector that its element tells
+  abbrev pub same_at_sector : ℕ → Bool
+  same_at_sector i = alike (sector c i) (sector d i) && eqb (element c i) (element d i)
 
-  by_next : (i n x : ℕ) → 0 < n → x ≡ next_same c d i → (r : Bool) → (x ≡ 0 → r ≡ true) → (255 < x → r ≡ false) → (x ≢ 0 → x ≤ 255 → r ≡ chains_same c d x (n - 1)) → r ≡ chains_same c d i n
-  unfolding next_same same_from
-  by_next i zero x z e r a f o = absurd (omega arith)
-  by_next i (suc n) x z e r a f o =
-      go (alike (sector c i) (sector d i)) (eqb (element c i) (element d i)) (link (S c) i (element c i)) (view (S c) i (element c i)) e
+  abbrev pub next_at : ℕ → Option ℕ
+  next_at i = linked (link (S c) i (element c i))
+
+  pub on-sector : (i x : ℕ) → Some x ≡ next_at i → Sector g.sectors x
+  on-sector i x e = rw b.shape.sectors_is (go (link (S c) i (element c i)) (view (S c) i (element c i)) e)
     where
-      go : (t u : Bool) (l : Link) → View (S c) i (element c i) l → x ≡ pick (t && u) (link_next l) 256
-          → r ≡ (t && (u && onward l (λ k. same_from (element c) (element d) (λ m. alike (sector c m) (sector d m)) (S c) k n)))
-      go false u l v e = f (omega arith)
-      go true false l v e = f (omega arith)
-      go true true (end m) v e = a e
-      go true true (to y) (v_to k) e =
-          let s = k.sector in
-          let t = b.shape.in_bounds in
-          let one : suc n - 1 ≡ n = omega arith in
-          rw (← e, ← one) (o (λ q. omega (arith, q, e, s.low)) (omega (arith, e, s.high, t.s_top)))
-      go true true (bad w) v e = a e
+      go : (l : Link) → View (S c) i (element c i) l → Some x ≡ linked l → Sector (S c) x
+      go (end m) v q = absurd (let w : ◌≡◌ {A = ℕ} 0 1 = cc in omega arith)
+      go (to y) (v_to n) q = let z : x ≡ y = cc in rw z n.sector
+      go (bad f) v q = absurd (let w : ◌≡◌ {A = ℕ} 0 1 = cc in omega arith)
 
   pub chain-none : (i n : ℕ) → n ≤ 0 → true ≡ chains_same c d i n
   unfolding same_from
   chain-none i n h = let e : n ≡ 0 = omega arith in rw e
 
-  pub chain-ends : (i n x : ℕ) → 0 < n → x ≡ next_same c d i → x ≡ 0 → true ≡ chains_same c d i n
-  chain-ends i n x z e h = by_next i n x z e true (λ q. refl) (λ q. absurd (omega arith)) (λ q l. absurd (q h))
+  pub chain-differs : (i n : ℕ) → 0 < n → false ≡ same_at_sector i → false ≡ chains_same c d i n
+  unfolding same_from
+  chain-differs i zero z e = absurd (omega arith)
+  chain-differs i (suc n) z e = go (alike (sector c i) (sector d i)) (eqb (element c i) (element d i)) (onward (link (S c) i (element c i)) (λ x. chains_same c d x n)) e
+    where
+      go : (t u r : Bool) → false ≡ (t && u) → false ≡ (t && (u && r))
+      go false u r q = refl
+      go true false r q = refl
+      go true true r q = absurd (true≢false (sym q))
 
-  pub chain-differs : (i n x : ℕ) → 0 < n → x ≡ next_same c d i → 255 < x → false ≡ chains_same c d i n
-  chain-differs i n x z e h = by_next i n x z e false (λ q. absurd (omega arith)) (λ q. refl) (λ q l. absurd (omega arith))
+  same-on : (i n : ℕ) → true ≡ same_at_sector i → onward (link (S c) i (element c i)) (λ x. chains_same c d x n) ≡ chains_same c d i (suc n)
+  unfolding same_from
+  same-on i n e = go (alike (sector c i) (sector d i)) (eqb (element c i) (element d i)) (onward (link (S c) i (element c i)) (λ x. chains_same c d x n)) e
+    where
+      go : (t u r : Bool) → true ≡ (t && u) → r ≡ (t && (u && r))
+      go false u r q = absurd (true≢false q)
+      go true false r q = absurd (true≢false q)
+      go true true r q = refl
 
-  pub chain-goes : (i n x : ℕ) → 0 < n → x ≡ next_same c d i → x ≢ 0 → x ≤ 255 → chains_same c d x (n - 1) ≡ chains_same c d i n
-  chain-goes i n x z e h k = by_next i n x z e (chains_same c d x (n - 1)) (λ y. absurd (h y)) (λ y. absurd (omega arith)) (λ y l. refl)
+  pub chain-ends : (i n : ℕ) → 0 < n → true ≡ same_at_sector i → None ≡ next_at i → true ≡ chains_same c d i n
+  chain-ends i zero z e h = absurd (omega arith)
+  chain-ends i (suc n) z e h = go (link (S c) i (element c i)) h ∙ same-on i n e
+    where
+      go : (l : Link) → None ≡ linked l → true ≡ onward l (λ x. chains_same c d x n)
+      go (end m) q = refl
+      go (to y) q = absurd (let w : ◌≡◌ {A = ℕ} 0 1 = cc in omega arith)
+      go (bad w) q = refl
+
+  pub chain-goes : (i n x : ℕ) → 0 < n → true ≡ same_at_sector i → Some x ≡ next_at i → chains_same c d x (n - 1) ≡ chains_same c d i n
+  chain-goes i zero x z e h = absurd (omega arith)
+  chain-goes i (suc n) x z e h = rw sub-one (go (link (S c) i (element c i)) h ∙ same-on i n e)
+    where
+      go : (l : Link) → Some x ≡ linked l → chains_same c d x n ≡ onward l (λ x. chains_same c d x n)
+      go (end m) q = absurd (let w : ◌≡◌ {A = ℕ} 0 1 = cc in omega arith)
+      go (to y) q = let z : x ≡ y = cc in rw z
+      go (bad f) q = absurd (let w : ◌≡◌ {A = ℕ} 0 1 = cc in omega arith)
 
   -- with S - 3 sectors allowed the walk sees the whole product
   pub whole-chain : (j : ℕ) → IsProduct c j → IsProduct d j → chains_same c d j (S c - 3) ≡ same_product c d j
@@ -186,6 +176,13 @@ module _ {c d : List ℕ} {g : Shape} (b : Both c d g) where
         let u : IsProduct d j = record { low = v.low; high = omega (arith, k, b.shape_after.entries-is); full = λ f. v.full (sym x-is ∙ h ∙ y-is ∙ f) } in
         let a : q ≡ same_product c d j = rw (b.shape.sectors_is, whole-chain j v u) at w in
         rw (← x-is, ← y-is, eq-eqb x y h, ← e, z) a
+
+-- ---- a pair of images
+
+pub both : (p : Pair) → Both p.before.image.now p.after.now p.before.shape
+both p =
+    let o = p.one_shape in
+    record { obeys = (accepts p.before.image.now).0 o.accepted; obeys_after = (accepts p.after.now).0 o.accepted_after; shape = p.before.shaped; shape_after = o.shape_after }
 
 -- ---- the flags
 

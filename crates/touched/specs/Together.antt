@@ -1,10 +1,10 @@
 -- An annex: two chains walked together, as the code of `touched` does: it goes on while sectors and elements are the same. No published contract cites
 -- it. Assumes nothing.
-use Rattle.std.specs.Prelude.{Bool, true, ◌&&◌, List, [], ◌∷◌, ℕ, zero, suc, eqb}
+use Rattle.std.specs.Prelude.{◌≡◌, Bool, true, ◌&&◌, List, [], ◌∷◌, ℕ, zero, suc, eqb, Option, Some, None}
 use Rattle.chains.specs.Walk.{Link, end, to, bad, link}
-use Rattle.bits.specs.Bits.{pick}
 use Rattle.rules.specs.Claim.{◌≡?◌, Rule, rule}
 use Rattle.image.specs.Image.{dataset, S, element, sector}
+use Rattle.image.specs.Verdict.{verdict}
 use Rattle.image.specs.Facts.{Facts}
 use Rattle.image.specs.Shape.{Shaped}
 use Rattle.image.specs.declared.Shape.{Shape}
@@ -24,15 +24,11 @@ same_from f g t S i (suc n) = t i && (eqb (f i) (g i) && onward (link S i (f i))
 abbrev pub chains_same : List ℕ → List ℕ → ℕ → ℕ → Bool
 chains_same c d i n = same_from (element c) (element d) (λ k. alike (sector c k) (sector d k)) (S c) i n
 
--- the sector that an element names; 0 where it names none
-abbrev pub link_next : Link → ℕ
-link_next (end m) = 0
-link_next (to x) = x
-link_next (bad w) = 0
-
--- the next sector of both chains at sector i; 0 where they end, 256 where sector or element differ
-unfoldable pub next_same : List ℕ → List ℕ → ℕ → ℕ
-next_same c d i = pick (alike (sector c i) (sector d i) && eqb (element c i) (element d i)) (link_next (link (S c) i (element c i))) 256
+-- the sector that an element names
+abbrev pub linked : Link → Option ℕ
+linked (end m) = None
+linked (to x) = Some x
+linked (bad w) = None
 
 -- the shape g, but for a dataset of n bytes
 abbrev pub with_dataset : Shape → ℕ → Shape
@@ -43,6 +39,12 @@ pub record Both (c d : List ℕ) (g : Shape) : Type 0 where
   pub obeys : Facts c
   pub obeys_after : Facts d
   pub shape : Shaped c g
+  pub shape_after : Shaped d (with_dataset g (dataset d))
+
+-- the same of the second image, beside a first one of the shape g
+pub record OneShape (c d : List ℕ) (g : Shape) : Type 0 where
+  pub accepted : (verdict c).number ≡ 0
+  pub accepted_after : (verdict d).number ≡ 0
   pub shape_after : Shaped d (with_dataset g (dataset d))
 
 -- 90 and 91 by the shapes g and h of the images, with n flags

@@ -1,12 +1,9 @@
 -- The pass over the entries keeps what it finds of one of them, `at j` of entry j: before that entry it holds 0, after it what was found. Assumes nothing.
 use mathlib.Core.Path.{◌≡◌, refl, sym, ◌∙◌}
-use mathlib.Core.Bool.{Bool, true, false}
+use mathlib.Core.Logic.{◌≢◌}
 use Prim.Native.Nat.{ℕ, ◌+◌, ◌≤◌, ◌<◌}
 use native.Mathlib.Omega.{arith}
 use native.Mathlib.Decide.{ℕ_discrete, dec_lt}
-use lib.Dec.{eqb}
-use borrow.Author.Tests.{eq-eqb, ne_eqb}
-use Rattle.bits.specs.Bits.{pick}
 
 -- t is what is held of entry j once the entries below k are passed
 pub record Holds (at : ℕ → ℕ) (j k t : ℕ) : Type 0 where
@@ -28,11 +25,12 @@ module _ {at : ℕ → ℕ} {j : ℕ} where
       ahead = λ l. h.ahead (omega arith);
     }
 
-    pub holds-take : {r : ℕ} → r ≡ at k → Holds at j (k + 1) (pick (eqb k j) r t)
-    holds-take {r} w = elim (ℕ_discrete k j) [
-      | yes q ↦ rw (eq-eqb k j q) (record { passed = λ l. rw (← q) w; ahead = λ l. omega arith })
-      | no q ↦ rw (ne_eqb k j q) (record { passed = λ l. h.passed (omega arith); ahead = λ l. h.ahead (omega arith) })
-    ]
+    -- of entry k, which is asked for, r is found; or another is asked for
+    pub holds-take : {r : ℕ} → r ≡ at k → k ≡ j → Holds at j (k + 1) r
+    holds-take w q = record { passed = λ l. rw (← q) w; ahead = λ l. omega arith }
+
+    pub holds-other : k ≢ j → Holds at j (k + 1) t
+    holds-other q = record { passed = λ l. h.passed (omega arith); ahead = λ l. h.ahead (omega arith) }
 
     -- nothing is found from k on
     pub holds-end : (k ≤ j → at j ≡ 0) → t ≡ at j
@@ -40,8 +38,3 @@ module _ {at : ℕ → ℕ} {j : ℕ} where
       | yes l ↦ h.passed l
       | no l ↦ h.ahead (omega arith) ∙ sym (z (omega arith))
     ]
-
--- what is chosen is below what both are below
-pub pick-lt : (b : Bool) (x y : ℕ) {n : ℕ} → x < n → y < n → pick b x y < n
-pick-lt true x y h k = h
-pick-lt false x y h k = k

@@ -1,3 +1,4 @@
 pub mod Parts
 pub mod Kept
 pub mod Short
+pub mod KindLaws

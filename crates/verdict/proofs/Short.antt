@@ -1,16 +1,18 @@
 -- A dataset of 24 bytes that keeps the rules 1 to 9 and 12, told by fewer looks: each is at what a rule says. Assumes nothing.
 use mathlib.Core.Path.{◌≡◌, refl, sym, ◌∙◌}
 use mathlib.Core.List.{List}
-use Prim.Native.Nat.{ℕ, ◌+◌, ◌-◌, ◌*◌, ◌/◌, ◌≤◌, ◌<◌}
+use Prim.Native.Nat.{ℕ, ◌+◌, ◌-◌, ◌*◌, ◌/◌, ◌%◌, ◌≤◌, ◌<◌}
 use native.Mathlib.Nat.{add-mul, mul-le-mul, le_refl}
 use native.Mathlib.Omega.{arith}
-use lib.ListN.{length, get_or}
+use lib.ListN.{length, get_or, drop}
 use Rattle.bits.specs.Bits.{Bytes, field}
 use Rattle.bits.proofs.Laws.{field-drop}
 use Rattle.crc.specs.Crc.{crc}
 use Rattle.crc.specs.Little.{little, part}
 use Rattle.crc.proofs.Parts.{pair_law}
 use Rattle.chains.specs.Psi.{Ψ, table_bytes}
+use Rattle.fields.specs.Fields.{fields, value_at}
+use Rattle.fields.specs.declared.Layout.TheVariants as layout
 use Rattle.rules.specs.Claim.{Kept}
 use Rattle.rules.specs.First.{first}
 use Rattle.rules.proofs.First.{first-of-kept}
@@ -20,6 +22,20 @@ use Rattle.image.specs.Image.{stated, version, copy, shell_values, dataset, B, S
 use Rattle.image.specs.Rules.{head_rules, size_rules, content_rules, rules}
 use Rattle.image.proofs.Stops.{at-content}
 use Rattle.image.proofs.ZeroBytes.{two_bytes}
+
+-- the number of entries stands in the shell
+pub entry_count : (c : List ℕ) → e# c ≡ value_at layout.Shell 14 (drop 4 c)
+unfolding e# shell_values fields
+entry_count c = refl
+
+-- the padding stands from byte 24 on, and a dataset is blocks of four bytes
+pub pad_bytes : (c : List ℕ) → shell_pad c ≡ field c 192 (8 * (dataset c - 22))
+unfolding shell_pad
+pad_bytes c = field-drop c 4 160 (8 * (dataset c - 22))
+
+pub whole_blocks : (c : List ℕ) → dataset c % 4 ≡ 0
+unfolding dataset
+whole_blocks c = omega arith
 
 -- ---- the card
 

@@ -40,7 +40,7 @@ abbrev width_of : After-low-2 → ℕ
 width_of c = c.args.width
 
 abbrev bytes_of : After-low-2 → ℕ
-bytes_of c = (c.args.first % 8 + width_of c + 7) / 8
+bytes_of c = c.div_ceil-count.result
 
 abbrev spare_of : After-low-2 → ℕ
 spare_of c = 8 * bytes_of c - (c.args.first % 8 + width_of c)
@@ -54,13 +54,13 @@ whole : (c : After-low-2)
 whole c =
     let a = c.args in
     made a.s.now a.first a.width a.v (bytes_of c) c.load-old.result c.low.result c.low-2.result
-    refl c.requires.0 c.requires.1 c.load-old.ensures c.low.ensures c.low-2.ensures
+    (omega (arith, c.div_ceil-count.ensures)) c.requires.0 c.requires.1 c.load-old.ensures c.low.ensures c.low-2.ensures
 
 pub overflow_add-x : goal.overflow_add-x
 overflow_add-x c =
     let a = c.args in
     record {
-      fits = (made a.s.now a.first a.width a.v _ c.load-old.result c.low.result _ refl c.requires.0 c.requires.1
+      fits = (made a.s.now a.first a.width a.v _ c.load-old.result c.low.result _ (omega (arith, c.div_ceil-count.ensures)) c.requires.0 c.requires.1
           c.load-old.ensures c.low.ensures refl).high;
     }
 

@@ -49,17 +49,17 @@ spare_of c = let a = c.args in 64 - (a.first % 8 + a.width)
 abbrev new-of : After-low-2 → ℕ
 new-of c = let a = c.args in field (store a.s.now a.first a.width a.v) (8 * (a.first / 8)) 64
 
-at : (c : After-low-2) → Changed c.load_eight-old.result c.low.result c.low-2.result (spare_of c) (new-of c)
+at : (c : After-low-2) → Changed c.load-old.result c.low.result c.low-2.result (spare_of c) (new-of c)
 at c =
     let a = c.args in
-    made a.s.now a.first a.width a.v c.load_eight-old.result c.low.result c.low-2.result c.requires.1 c.requires.2
-    c.load_eight-old.ensures c.low.ensures c.low-2.ensures
+    made a.s.now a.first a.width a.v c.load-old.result c.low.result c.low-2.result c.requires.1 c.requires.2
+    c.load-old.ensures c.low.ensures c.low-2.ensures
 
 pub overflow_sub-old : goal.overflow_sub-old
 overflow_sub-old c =
     let a = c.args in
-    (made a.s.now a.first a.width a.v c.load_eight-old.result c.low.result (a.v % 2 ^ a.width) c.requires.1 c.requires.2
-    c.load_eight-old.ensures c.low.ensures refl).under
+    (made a.s.now a.first a.width a.v c.load-old.result c.low.result (a.v % 2 ^ a.width) c.requires.1 c.requires.2
+    c.load-old.ensures c.low.ensures refl).under
 
 pub overflow_add-old : goal.overflow_add-old
 overflow_add-old c = record { fits = (at c).all }

@@ -11,8 +11,8 @@ use Rattle.dates.proofs.stamp.Goals.{Then-has_stamp}
 number : (c : Then-has_stamp) → let a = c.args in (stamp_of a.year a.month a.day).number ≡ 0
 number c = eqb-true _ 0 (sym c.has_stamp.ensures ∙ c.if-has_stamp.true)
 
-pub day_number-n-requires : goal.day_number-n-requires
-day_number-n-requires c =
+pub day_number-requires : goal.day_number-requires
+day_number-requires c =
     let a = c.args in
     let h = in-range a.year a.month a.day (number c) in
     record { counted = h.0.counted; year_bound = h.1 }
@@ -21,9 +21,9 @@ pub returns-then-has_stamp : goal.returns-then-has_stamp
 returns-then-has_stamp c =
     let a = c.args in
     let h = in-range a.year a.month a.day (number (goal.at.returns-then-has_stamp c).Then-has_stamp) in
-    rw c.day_number-n.ensures (sym (takes (date a.year a.month a.day) h.0))
+    rw c.day_number.ensures (sym (takes (date a.year a.month a.day) h.0))
 
-pub returns : goal.returns
-returns c =
+pub returns-else-has_stamp : goal.returns-else-has_stamp
+returns-else-has_stamp c =
     let a = c.args in
     sym (only-twenty-nine a.year a.month a.day (eqb-false _ 0 (sym c.has_stamp.ensures ∙ c.if-has_stamp.false)))

@@ -1,35 +1,41 @@
 -- `readticket::take` meets its contract: the product is copied only where every check has passed. Assumes nothing.
-use mathlib.Core.Path.{refl, sym, ◌∙◌}
+use mathlib.Core.Path.{sym}
 use native.Mathlib.Omega.{arith}
 use lib.ListN.{length}
+use Rattle.std.proofs.lemmas.Result.{err_from_is_err_and}
 use Rattle.reads.specs.Ticket.{buffer_after}
 use Rattle.rules.proofs.AnswerLaws.{refused-stays}
-use Rattle.image.proofs.Places.{size_of}
-use Rattle.readticket.proofs.Taken.{Taking, judged-taken, judged-refused}
-use Rattle.readticket.proofs.take.Goals.{In-Taken}
+use Rattle.image.proofs.Products.{sized}
+use Rattle.readticket.proofs.InOrder.{at-product}
+use Rattle.readticket.proofs.Taken.{judged-taken, judged-refused}
 use Rattle.readticket.proofs.take.Goals as goal
 
--- the read is taken
-taking : (c : In-Taken) → Taking c.args.image.now c.args.entry (length c.args.buffer.now) c.in-Taken.sound
-taking c = judged-taken _ _ _ _ (sym c.judge-judged.ensures ∙ c.in-Taken.is)
-
-pub returns-in_default : goal.returns-in_default
+pub returns-in_err-found : goal.returns-in_err-found
 unfolding buffer_after
-returns-in_default c =
-    let s = judged-refused _ _ _ (sym c.judge-judged.ensures ∙ c.in_default.is) in
-    record { value = c.judge-judged.ensures; buffer_after = rw s.number_is (sym (refused-stays _ _ _ s.some)) }
+returns-in_err-found c =
+    let p = err_from_is_err_and c.from_residual.result c.from_residual.ensures.1 in
+    let e = at-product _ _ (length c.args.buffer.now) (sym c.in_err-found.ensures.found) in
+    let s = judged-refused _ _ _ (sym e) in
+    record { value = rw (p.1, p.2) e; buffer_after = rw s.number_is (sym (refused-stays _ _ _ s.some)) }
 
-pub shape_of-requires : goal.shape_of-requires
-shape_of-requires c = (taking c).known.opened.shape.in_bounds
+pub returns-in_err-sound : goal.returns-in_err-sound
+unfolding buffer_after
+returns-in_err-sound c =
+    let p = err_from_is_err_and c.from_residual-in_err-sound.result c.from_residual-in_err-sound.ensures.1 in
+    let a = c.in_ok-found.ensures.asked in
+    let e = rw (a.0, a.1) at c.in_err-sound.ensures in
+    let s = judged-refused _ _ _ (sym e) in
+    record { value = rw (p.1, p.2) e; buffer_after = rw s.number_is (sym (refused-stays _ _ _ s.some)) }
 
 pub copy_product-requires : goal.copy_product-requires
 copy_product-requires c =
-    let k = taking (goal.at.copy_product-requires c).In-Taken in
-    let s = c.shape_of.ensures in
-    let t = k.known.there in
-    rw k.sound-is (record { shaped = s; present = t; count_value = (refl, omega (arith, k.room-enough, size_of s t refl)) })
+    let k = judged-taken _ _ _ _ (sym c.in_ok-sound.ensures) in
+    omega (arith, k.room-enough, sized c.in_ok-found.found)
 
 pub returns : goal.returns
 unfolding buffer_after
 returns c =
-    record { value = sym c.in-Taken.is ∙ c.judge-judged.ensures; buffer_after = rw (taking (goal.at.returns c).In-Taken).number_zero c.copy_product.ensures }
+    let a = c.in_ok-found.ensures.asked in
+    let e = rw (a.0, a.1) at c.in_ok-sound.ensures in
+    let k = judged-taken _ _ _ _ (sym e) in
+    record { value = e; buffer_after = rw k.number_zero (rw (a.0, a.1) at c.copy_product.ensures) }

@@ -1,50 +1,40 @@
 -- `table::decode_table` meets its contract: no rule fails, and the elements stand before zeros; or one does, and all are zero. Assumes nothing.
-use mathlib.Core.Path.{sym, ◌∙◌}
-use Prim.Native.Nat.{ℕ, ◌-◌}
-use native.Mathlib.Omega.{arith}
-use lib.ListN.{length, replicate}
-use lib.Seq.{length-take-le}
+use mathlib.Core.Path.{◌≡◌, refl, sym, ap, ap₂, ◌∙◌}
+use mathlib.Core.List.{List, ◌++◌}
+use borrow.Author.Rules.{rules}
+use Rattle.std.specs.Prelude.{Err}
+use Rattle.std.proofs.Common.{ℕ, ◌≤◌, length, take, drop, replicate, ◌-◌, length-take-le, arith}
+use Rattle.table.specs.Coded.{elements_in, coded_table}
+use Rattle.table.proofs.Buffer.{taken, refused}
 use Rattle.table.proofs.Rules.{decode-taken-gives, table-room}
-use Rattle.table.proofs.Buffer.{found, nothing-found}
 use Rattle.table.proofs.decode_table.Goals as goal
 
-pub overflow_sub-count : goal.overflow_sub-count
-overflow_sub-count c =
-    let a = c.args in
-    let t = decode-taken-gives a.s (length a.bytes.now) (sym c.judge_bytes-number.ensures ∙ c.if-number-eq0.true) in
-    omega arith
+-- the elements' part of the buffer
+abbrev zeros : List ℕ
+zeros = replicate 252 0
 
-pub psi-requires : goal.psi-requires
-psi-requires c =
-    let a = c.args in
-    let t = decode-taken-gives a.s (length a.bytes.now) (sym c.judge_bytes-number.ensures ∙ c.if-number-eq0.true) in
-    (t.least, t.most)
+part : (n : ℕ) → n ≤ 255 → length (take (n - 3) zeros) ≡ n - 3
+part n h = length-take-le (n - 3) zeros (omega arith)
 
-pub slice_bounds-elements-end : goal.slice_bounds-elements-end
-slice_bounds-elements-end c =
-    let a = c.args in
-    let t = decode-taken-gives a.s (length a.bytes.now) (sym c.judge_bytes-number.ensures ∙ c.if-number-eq0.true) in
-    omega arith
-
-pub slice_bounds-unpack_all-end : goal.slice_bounds-unpack_all-end
-slice_bounds-unpack_all-end c =
-    let a = c.args in
-    let t = decode-taken-gives a.s (length a.bytes.now) (sym c.judge_bytes-number.ensures ∙ c.if-number-eq0.true) in
-    sym (length-take-le {A = ℕ} (a.s - 3) (replicate 252 0) (omega arith))
+pub returns-in_err-sectors : goal.returns-in_err-sectors
+returns-in_err-sectors c =
+    let i = c.in_err-sectors in
+    let e : c.from_residual.result ≡ Err i.field-0.0 = search rules in
+    ap coded_table e ∙ refused c.args.s c.args.bytes.now i.field-0.0 i.ensures.number
 
 pub unpack_all-requires : goal.unpack_all-requires
 unpack_all-requires c =
     let a = c.args in
-    let t = decode-taken-gives a.s (length a.bytes.now) (sym c.judge_bytes-number.ensures ∙ c.if-number-eq0.true) in
-    let p = c.psi in
-    (p.ensures.1, omega arith, length-take-le {A = ℕ} (a.s - 3) (replicate 252 0) (omega arith), rw (p.ensures.0, t.size) (table-room a.s))
-
-pub returns-then-number-eq0 : goal.returns-then-number-eq0
-returns-then-number-eq0 c =
-    let a = c.args in
-    found a.s a.bytes.now (sym c.judge_bytes-number.ensures ∙ c.if-number-eq0.true) c.psi.ensures.0 c.unpack_all.ensures
+    let i = c.in_ok-sectors in
+    let t = decode-taken-gives a.s (length a.bytes.now) (sym i.ensures.number) in
+    let l = part i.sectors (omega arith) in
+    (c.psi-psi.ensures.1, rw l (omega arith), rw (l, t.size, c.psi-psi.ensures.0, i.ensures.same.0) (table-room a.s))
 
 pub returns : goal.returns
 returns c =
     let a = c.args in
-    nothing-found a.s a.bytes.now c.judge_bytes-number.ensures c.if-number-eq0.false
+    let i = c.in_ok-sectors in
+    let l = part i.sectors (omega arith) in
+    let e : c.unpack_all.new.out ≡ elements_in a.s a.bytes.now = c.unpack_all.ensures ∙ rw (l, c.psi-psi.ensures.0, i.ensures.same.0) refl in
+    taken a.s a.bytes.now i.ensures.number (ap (λ (n : ℕ). n - 3) i.ensures.same.0)
+    (ap₂ (λ (x : List ℕ) (n : ℕ). x ++ drop (n - 3) zeros) e i.ensures.same.0)

@@ -1,31 +1,17 @@
--- `table::encode_table` meets its contract: no rule fails, and the elements are packed; or one does, and nothing is written. Assumes nothing.
-use mathlib.Core.Path.{sym, ◌∙◌}
-use native.Mathlib.Omega.{arith}
-use lib.ListN.{length}
+-- `table::encode_table` meets its contract: elements that are taken have their room. Assumes nothing.
+use Rattle.std.proofs.Common.{length, sym, arith}
 use Rattle.table.proofs.Rules.{encode-taken-gives, table-room}
-use Rattle.table.proofs.Buffer.{done, refused}
+use Rattle.table.proofs.Buffer.{done}
 use Rattle.table.proofs.encode_table.Goals as goal
-
-pub psi-requires : goal.psi-requires
-psi-requires c =
-    let a = c.args in
-    let t = encode-taken-gives a.s a.elements.now (length a.out.now) (sym c.judge-number.ensures ∙ c.if-number-eq0.true) in
-    (t.least, t.most)
 
 pub pack_all-requires : goal.pack_all-requires
 pack_all-requires c =
     let a = c.args in
-    let t = encode-taken-gives a.s a.elements.now (length a.out.now) (sym c.judge-number.ensures ∙ c.if-number-eq0.true) in
-    let p = c.psi in
-    (p.ensures.1, omega arith, rw (p.ensures.0, t.count, t.size) (table-room a.s))
-
-pub returns-then-number-eq0 : goal.returns-then-number-eq0
-returns-then-number-eq0 c =
-    let a = c.args in
-    let e = sym c.judge-number.ensures ∙ c.if-number-eq0.true in
-    done a.s a.elements.now a.out.now e c.psi.ensures.0 c.pack_all.ensures
+    let t = encode-taken-gives a.s a.elements.now (length a.out.now) (sym c.in_ok-sectors.ensures.number) in
+    let e = c.psi.ensures.0 in
+    (c.psi.ensures.1, omega arith, rw (t.count, t.size, e, c.in_ok-sectors.ensures.same.0) (table-room a.s))
 
 pub returns : goal.returns
 returns c =
     let a = c.args in
-    refused a.s a.elements.now a.out.now c.judge-number.ensures c.if-number-eq0.false
+    done a.s a.elements.now a.out.now c.in_ok-sectors.ensures.number c.in_ok-sectors.ensures.same.0 c.psi.ensures.0 c.pack_all.ensures

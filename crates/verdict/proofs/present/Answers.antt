@@ -23,9 +23,9 @@ placed {c} {g} {j} s h p e = e ∙ rw (p ∙ entry-is s j, le-leb 1 j h.0, le-le
 pub returns-then-image-k-ne0 : goal.returns-then-image-k-ne0
 returns-then-image-k-ne0 c =
     let k = c.entry_at-k.result in
-    placed c.requires.shaped c.requires.le_j c.entry_at-k.ensures (third-filled c.args.image.now k (λ i. (c.shared_slice_known-2-1.given (k + i)).fits) c.if-image-k-ne0.true)
+    placed c.args.card.now.shaped c.requires c.entry_at-k.ensures (third-filled c.args.card.now.image.now k (λ i. (c.shared_slice_known-1.given (k + i)).fits) c.if-image-k-ne0.true)
 
 pub returns : goal.returns
 returns c =
     let k = c.entry_at-k.result in
-    placed c.requires.shaped c.requires.le_j c.entry_at-k.ensures (third-empty c.args.image.now k (λ i. (c.shared_slice_known-6-1.given (k + i)).fits) c.if-image-k-ne0.false)
+    placed c.args.card.now.shaped c.requires c.entry_at-k.ensures (third-empty c.args.card.now.image.now k (λ i. (c.shared_slice_known-5-1.given (k + i)).fits) c.if-image-k-ne0.false)

@@ -4,4 +4,4 @@ use Rattle.writes.proofs.is_kind.Goals as goal
 
 pub returns : goal.returns
 unfolding product_at
-returns c = rw (c.of_entry-t.ensures, c.of_header-f.ensures)
+returns c = rw (c.entry_field-t.ensures, c.header_field-f.ensures)

@@ -1,87 +1,112 @@
 -- `writes::write_record` meets its contract: each number is the first rule that fails, and where none does the fields are stored. Assumes nothing.
-use mathlib.Core.Path.{◌≡◌, sym, ◌∙◌}
+use mathlib.Core.Path.{◌≡◌, refl, sym, ◌∙◌}
 use mathlib.Core.Bool.{true}
-use Prim.Native.Nat.{◌≤◌}
+use mathlib.Core.List.{List}
+use Prim.Native.Nat.{ℕ, ◌≤◌}
 use native.Mathlib.Omega.{arith}
+use borrow.Author.Rules.{rules}
+use lib.ListN.{take}
+use Rattle.std.specs.Prelude.{Result, Ok, Err}
+use Rattle.std.proofs.lemmas.Result.{err_from_is_err_and}
+use Rattle.rules.specs.Reasons.{said}
+use Rattle.rules.specs.Refusals.{answered}
+use Rattle.rules.specs.declared.Reason.{Reason}
+use Rattle.ticket.specs.Kind.{row_of, count_of}
+use Rattle.ticket.specs.Memory.{own_of}
+use Rattle.ticket.specs.declared.kinds.Kind.{Kind}
+use Rattle.steps.specs.Step.{Step, write_all}
+use Rattle.steps.specs.Steps.{answer, next}
+use Rattle.fields.specs.Packed.{pack_number}
 use Rattle.rules.proofs.AnswerLaws.{refused-stays}
+use Rattle.rules.proofs.ReasonLaws.{number-ne0}
 use Rattle.image.specs.Product.{product_at}
-use Rattle.image.proofs.Founds.{Finds, finds}
-use Rattle.image.proofs.Places.{size_of, size_in}
-use Rattle.steps.proofs.Calls.{Sees, sees_of, turned_of, turned-answer, taken-answer, entry_in_lem}
-use Rattle.writes.specs.Ready.{same_kind}
+use Rattle.image.proofs.Products.{Holds, holds}
+use Rattle.steps.proofs.Calls.{turned_of, turned-answer, taken-answer, entry_in_lem}
+use Rattle.verdict.specs.Products.{Known, kind_in}
+use Rattle.writes.proofs.Named.{named, named-result, blocked-is, free-is}
 use Rattle.writes.proofs.Numbers.{record-blocked, record-other, record-barred, record-refused, record_taken, record-placed}
-use Rattle.writes.proofs.write_record.Goals.{After-mark_of-marked, Else-marked-gt1, Else-not-is_kind, In-There}
+use Rattle.writes.specs.Same.{same_kind}
+use Rattle.writes.proofs.write_record.Goals.{Else-eq, Else-not-is_kind, In_ok-found, In_ok-kind}
 use Rattle.writes.proofs.write_record.Goals as goal
 
--- what is found, and what is seen of it
-found : (c : In-There) → (Finds c.args.image.now c.args.entry c.in-There.last c.in-There.count)
-found c = finds _ _ c.find.ensures c.in-There.is
+-- the product
+there : (c : In_ok-found) → Holds c.args.image.now c.args.entry c.in_ok-found.found
+there c = holds c.in_ok-found.found c.in_ok-found.ensures.asked
 
-seen : (c : After-mark_of-marked) → (Sees c.args.image.now c.args.entry c.shape_of-g.result c.in-There.last c.in-There.count c.mark_of-marked.result)
-seen c = sees_of (finds _ _ c.find.ensures c.in-There.is) c.shape_of-g.ensures c.mark_of-marked.ensures
-
--- it is not blocked, and of the record's kind
-free : (c : Else-marked-gt1) → ((product_at c.args.image.now c.args.entry).marked ≤ 1)
+-- it is not blocked
+free : (c : Else-eq) → (product_at c.args.image.now c.args.entry).marked ≤ 1
 unfolding product_at
-free c = omega (arith, c.if-marked-gt1.false, (sees_of (finds _ _ c.find.ensures c.in-There.is) c.shape_of-g.ensures c.mark_of-marked.ensures).mark-is)
+free c =
+    let p = c.in_ok-found.ensures.asked in
+    omega (arith, free-is c.mark-mark.result c.if-eq.ensures, rw (p.0, p.1) at c.mark-mark.ensures)
 
-same : (c : Else-not-is_kind) → (same_kind (product_at c.args.image.now c.args.entry) c.args.typ c.args.revision ≡ true)
-same c = sym c.is_kind.ensures ∙ c.if-not-is_kind.false
+-- and of the record's kind
+same : (c : Else-not-is_kind) → same_kind (product_at c.args.image.now c.args.entry) c.args.typ c.args.revision ≡ true
+same c =
+    let p = c.in_ok-found.ensures.asked in
+    sym (rw (p.0, p.1) at c.is_kind.ensures) ∙ c.if-not-is_kind.false
 
-pub shape_of-g-requires-in-There : goal.shape_of-g-requires-in-There
-shape_of-g-requires-in-There c = (found c).in_bounds
+-- its kind
+known : (c : In_ok-kind) → kind_in (product_at c.args.image.now c.args.entry) c.args.entry ≡ Known c.in_ok-kind.kind
+known c =
+    let p = c.in_ok-found.ensures.asked in
+    sym (rw (p.0, p.1) at c.in_ok-kind.ensures)
 
-pub mark_of-marked-requires : goal.mark_of-marked-requires
-mark_of-marked-requires c = record { shaped = c.shape_of-g.ensures; sector = (found (goal.at.mark_of-marked-requires c).In-There).sector }
+pub returns-in_err-found : goal.returns-in_err-found
+returns-in_err-found c =
+    let p = err_from_is_err_and c.from_residual.result c.from_residual.ensures.1 in
+    rw (p.1, p.2) (turned-answer _ _ (turned_of c.in_err-found.ensures.found refl))
 
-pub returns-then-marked-gt1 : goal.returns-then-marked-gt1
+pub returns-then-eq : goal.returns-then-eq
 unfolding product_at
-returns-then-marked-gt1 c =
-    let s = seen (goal.at.returns-then-marked-gt1 c).After-mark_of-marked in
-    let a = record-blocked _ _ _ _ _ s.present (omega (arith, c.if-marked-gt1.true, s.mark-is)) in
-    (c.refused.ensures ∙ a.0, a.1)
-
-pub is_kind-requires : goal.is_kind-requires
-is_kind-requires c = let s = seen (goal.at.is_kind-requires c).After-mark_of-marked in record { shaped = s.shape; present = s.present }
+returns-then-eq c =
+    let p = c.in_ok-found.ensures.asked in
+    let h = there (goal.at.returns-then-eq c).In_ok-found in
+    rw c.at.ensures (record-blocked _ _ _ _ _ h.finds.present (omega (arith, blocked-is c.mark-mark.result c.if-eq.ensures, rw (p.0, p.1) at c.mark-mark.ensures)))
 
 pub returns-then-not-is_kind : goal.returns-then-not-is_kind
 returns-then-not-is_kind c =
-    let a = record-other _ _ _ _ _ (seen (goal.at.returns-then-not-is_kind c).After-mark_of-marked).present (free (goal.at.returns-then-not-is_kind c).Else-marked-gt1) (sym c.is_kind.ensures ∙ c.if-not-is_kind.true) in
-    (c.refused-then-not-is_kind.ensures ∙ a.0, a.1)
+    let p = c.in_ok-found.ensures.asked in
+    let h = there (goal.at.returns-then-not-is_kind c).In_ok-found in
+    rw c.at-then-not-is_kind.ensures
+    (record-other _ _ _ _ _ h.finds.present (free (goal.at.returns-then-not-is_kind c).Else-eq) (sym (rw (p.0, p.1) at c.is_kind.ensures) ∙ c.if-not-is_kind.true))
 
-pub overflow_mul-count : goal.overflow_mul-count
-overflow_mul-count c = let s = seen (goal.at.overflow_mul-count c).After-mark_of-marked in omega (arith, size_in s.shape s.present s.count-is, s.shape.in_bounds)
+pub returns-in_err-kind : goal.returns-in_err-kind
+returns-in_err-kind c =
+    let p = err_from_is_err_and c.from_residual-in_err-kind.result c.from_residual-in_err-kind.ensures.1 in
+    let a = c.in_ok-found.ensures.asked in
+    let h = there (goal.at.returns-in_err-kind c).In_ok-found in
+    rw (p.1, p.2)
+    (record-barred _ _ _ _ _ h.finds.present (free (goal.at.returns-in_err-kind c).Else-eq) (same (goal.at.returns-in_err-kind c).Else-not-is_kind) (sym (rw (a.0, a.1) at c.in_err-kind.ensures)))
 
-pub kind_of-requires : goal.kind_of-requires
-unfolding product_at
-kind_of-requires c = let s = seen (goal.at.kind_of-requires c).After-mark_of-marked in record { shaped = s.shape; present = s.present; size_value = size_of s.shape s.present s.count-is }
+pub store_record-requires : goal.store_record-requires
+store_record-requires c =
+    let h = there (goal.at.store_record-requires c).In_ok-found in
+    let e = entry_in_lem h.shape h.finds.present in
+    record { shaped = h.shape; le = (omega (arith, e), omega (arith, e)) }
 
-pub store_record-n-requires : goal.store_record-n-requires
-store_record-n-requires c =
-    let s = seen (goal.at.store_record-n-requires c).After-mark_of-marked in
-    let e = entry_in_lem s.shape s.present in
-    record { shaped = s.shape; le = (omega (arith, e), omega (arith, e)) }
+pub returns : goal.returns
+returns c = rw (named-result c.args.entry (λ r f q. search rules) c.store_record.result c.map_err.ensures.cases) (go c.store_record.result c.store_record.ensures.value)
+  where
+    h : Holds c.args.image.now c.args.entry c.in_ok-found.found
+    h = there (goal.at.returns c).In_ok-found
 
-pub returns-then-n-ne0 : goal.returns-then-n-ne0
-returns-then-n-ne0 c =
-    let n = c.store_record-n.ensures in
-    let a = record-refused _ _ _ _ _ (seen (goal.at.returns-then-n-ne0 c).After-mark_of-marked).present (free (goal.at.returns-then-n-ne0 c).Else-marked-gt1) (same (goal.at.returns-then-n-ne0 c).Else-not-is_kind) (sym c.kind_of.ensures ∙ c.in-Known.is) n.value c.if-n-ne0.true in
-    (c.refused-then-n-ne0.ensures ∙ a.0, n.image_after ∙ refused-stays _ _ _ (λ z. c.if-n-ne0.true (n.value ∙ z)) ∙ a.1)
+    k : Kind
+    k = c.in_ok-kind.kind
 
-pub returns-else-n-ne0 : goal.returns-else-n-ne0
-returns-else-n-ne0 c =
-    let n = c.store_record-n.ensures in
-    let r = sym c.kind_of.ensures ∙ c.in-Known.is in
-    let z = sym n.value ∙ c.if-n-ne0.false in
-    let t = record_taken _ _ _ _ _ (seen (goal.at.returns-else-n-ne0 c).After-mark_of-marked).present (free (goal.at.returns-else-n-ne0 c).Else-marked-gt1) (same (goal.at.returns-else-n-ne0 c).Else-not-is_kind) r z in
-    (c.refused-in-Known.ensures ∙ taken-answer _ _ t, n.image_after ∙ record-placed _ _ _ _ _ (seen (goal.at.returns-else-n-ne0 c).After-mark_of-marked).present (free (goal.at.returns-else-n-ne0 c).Else-marked-gt1) (same (goal.at.returns-else-n-ne0 c).Else-not-is_kind) r z)
+    values : List ℕ
+    values = take (count_of (row_of k).layout) c.args.values.now
 
-pub returns-in-Not-kind_of : goal.returns-in-Not-kind_of
-returns-in-Not-kind_of c =
-    let a = record-barred _ _ _ _ _ (seen (goal.at.returns-in-Not-kind_of c).After-mark_of-marked).present (free (goal.at.returns-in-Not-kind_of c).Else-marked-gt1) (same (goal.at.returns-in-Not-kind_of c).Else-not-is_kind) (sym c.kind_of.ensures ∙ c.in-Not-kind_of.is) in
-    (c.refused-in-Not-kind_of.ensures ∙ a.0, a.1)
+    step : Step
+    step = write_all c.args.entry c.args.typ c.args.revision (own_of c.args.typ c.args.revision c.args.values.now)
 
-pub returns-in-Not : goal.returns-in-Not
-returns-in-Not c =
-    let a = turned-answer _ _ (turned_of c.find.ensures c.in-Not.is) in
-    (c.refused-in-Not.ensures ∙ a.0, a.1)
+    go : (x : Result (Unit {0}) Reason) → said x ≡ pack_number (row_of k).layout values
+        → (answered (named c.args.entry x) ≡ answer c.args.image.now step) × (c.store_record.new.image ≡ next c.args.image.now step)
+    go (Ok u) e =
+        let f = free (goal.at.returns c).Else-eq in
+        let g = same (goal.at.returns c).Else-not-is_kind in
+        let r = known (goal.at.returns c).In_ok-kind in
+        (taken-answer _ _ (record_taken _ _ _ _ _ h.finds.present f g r (sym e)), c.store_record.ensures.image_after ∙ record-placed _ _ _ _ _ h.finds.present f g r (sym e))
+    go (Err x) e =
+        let a = record-refused _ _ _ _ _ h.finds.present (free (goal.at.returns c).Else-eq) (same (goal.at.returns c).Else-not-is_kind) (known (goal.at.returns c).In_ok-kind) e (number-ne0 x) in
+        (a.0, c.store_record.ensures.image_after ∙ refused-stays _ _ _ (λ z. number-ne0 x (e ∙ z)) ∙ a.1)

@@ -1,87 +1,12 @@
--- `commands::common` meets its contract: each number is the place of its command in the list.
--- Assumes nothing.
-use native.Mathlib.Omega.{arith}
+-- `commands::common`: no word of the list is the one.
+use mathlib.Core.Path.{sym}
+use borrow.Author.Rules.{rules}
+use Rattle.text.proofs.Split.{same_is}
 use Rattle.console.specs.Commands.{common}
-use Rattle.console.proofs.Found.{beyond}
+use Rattle.console.proofs.Passed.{passed_by}
 use Rattle.console.proofs.commands.common.Goals as goal
 
-pub returns-in-0 : goal.returns-in-0
-returns-in-0 c = rw c.in-0.is
-
-pub returns-in-1 : goal.returns-in-1
-returns-in-1 c = rw c.in-1.is
-
-pub returns-in-2 : goal.returns-in-2
-returns-in-2 c = rw c.in-2.is
-
-pub returns-in-3 : goal.returns-in-3
-returns-in-3 c = rw c.in-3.is
-
-pub returns-in-4 : goal.returns-in-4
-returns-in-4 c = rw c.in-4.is
-
-pub returns-in-5 : goal.returns-in-5
-returns-in-5 c = rw c.in-5.is
-
-pub returns-in-6 : goal.returns-in-6
-returns-in-6 c = rw c.in-6.is
-
-pub returns-in-7 : goal.returns-in-7
-returns-in-7 c = rw c.in-7.is
-
-pub returns-in-8 : goal.returns-in-8
-returns-in-8 c = rw c.in-8.is
-
-pub returns-in-9 : goal.returns-in-9
-returns-in-9 c = rw c.in-9.is
-
-pub returns-in-10 : goal.returns-in-10
-returns-in-10 c = rw c.in-10.is
-
-pub returns-in-11 : goal.returns-in-11
-returns-in-11 c = rw c.in-11.is
-
-pub returns-in-12 : goal.returns-in-12
-returns-in-12 c = rw c.in-12.is
-
-pub returns-in-13 : goal.returns-in-13
-returns-in-13 c = rw c.in-13.is
-
-pub returns-in-14 : goal.returns-in-14
-returns-in-14 c = rw (c.in-14.is, ← c.suit.ensures) c.suited.ensures
-
-pub returns-in-15 : goal.returns-in-15
-returns-in-15 c = rw c.in-15.is
-
-pub returns-in-16 : goal.returns-in-16
-returns-in-16 c = rw c.in-16.is
-
-pub returns-in-17 : goal.returns-in-17
-returns-in-17 c = rw c.in-17.is
-
-pub returns-in-18 : goal.returns-in-18
-returns-in-18 c = rw (c.in-18.is, ← c.suit-in-18.ensures) c.suited-in-18.ensures
-
-pub returns-in-19 : goal.returns-in-19
-returns-in-19 c = rw c.in-19.is
-
-pub returns-in-20 : goal.returns-in-20
-returns-in-20 c = rw c.in-20.is
-
-pub returns-in-21 : goal.returns-in-21
-returns-in-21 c = rw c.in-21.is
-
-pub returns-in-22 : goal.returns-in-22
-returns-in-22 c = rw c.in-22.is
-
-pub returns-in-23 : goal.returns-in-23
-returns-in-23 c = rw (c.in-23.is, ← c.suit-in-23.ensures) c.suited-in-23.ensures
-
-pub returns-in-24 : goal.returns-in-24
-returns-in-24 c = rw c.in-24.is
-
-pub returns-in-25 : goal.returns-in-25
-returns-in-25 c = rw c.in-25.is
-
-pub returns-in_default : goal.returns-in_default
-returns-in_default c = let i = c.args.i in beyond common i c.args.count c.args.a c.args.b c.args.n (omega arith)
+pub returns-in_default-41 : goal.returns-in_default-41
+returns-in_default-41 c =
+    let a = c.args in
+    λ others. sym (passed_by common others a.word.now _ _ _ _ (simp same_is (search rules), (simp same_is (search rules), (simp same_is (search rules), (simp same_is (search rules), (simp same_is (search rules), (simp same_is (search rules), (simp same_is (search rules), (simp same_is (search rules), (simp same_is (search rules), (simp same_is (search rules), (simp same_is (search rules), (simp same_is (search rules), (simp same_is (search rules), (simp same_is (search rules), (simp same_is (search rules), (simp same_is (search rules), (simp same_is (search rules), (simp same_is (search rules), (simp same_is (search rules), (simp same_is (search rules), (simp same_is (search rules), (simp same_is (search rules), (simp same_is (search rules), (simp same_is (search rules), (simp same_is (search rules), (simp same_is (search rules), tt)))))))))))))))))))))))))))

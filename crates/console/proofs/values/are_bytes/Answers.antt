@@ -8,7 +8,7 @@ pub returns-in_default : goal.returns-in_default
 returns-in_default c = bytes-other _ _ (sym c.check_form.ensures ∙ c.in_default.is) c.args.all
 
 pub overflow_sub-result : goal.overflow_sub-result
-overflow_sub-result c = headed c.in-Ticket.k _ c.rest.ensures
+overflow_sub-result c = headed c.in-Some.kind _ c.rest.ensures
 
 pub returns : goal.returns
-returns c = bytes-kind _ _ _ (sym c.check_form.ensures ∙ c.in-Ticket.is) _ c.args.all c.rest.ensures
+returns c = bytes-kind _ _ _ (sym c.check_form.ensures ∙ c.in-Some.is) _ c.args.all c.rest.ensures

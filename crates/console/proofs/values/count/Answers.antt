@@ -8,4 +8,4 @@ pub returns-in_default : goal.returns-in_default
 returns-in_default c = no-values _ _ (sym c.check_form.ensures ∙ c.in_default.is)
 
 pub returns : goal.returns
-returns c = all-values _ _ _ (sym c.check_form.ensures ∙ c.in-Ticket.is) _ c.count.ensures
+returns c = all-values _ _ _ (sym c.check_form.ensures ∙ c.in-Some.is) _ c.count.ensures

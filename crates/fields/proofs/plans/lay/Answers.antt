@@ -1,108 +1,108 @@
--- `plans::lay` meets its contract. Where the values fit, the loop keeps: the first i values are stored, and the parts left are all of the places left. Assumes nothing.
+-- `plans::lay` meets its contract. Where the values fit, the loop keeps: the first values are stored, and the parts left are all of the places left. Assumes nothing.
 use mathlib.Core.Path.{◌≡◌, refl, sym, ap, ◌∙◌}
-use mathlib.Core.Bool.{Bool, true, false, cond}
+use mathlib.Core.Bool.{Bool}
 use mathlib.Core.List.{List}
-use Prim.Native.Nat.{ℕ, ◌+◌, ◌≤◌}
+use Prim.Native.Nat.{ℕ}
 use native.Mathlib.Omega.{arith}
-use lib.ListN.{length, get_or, drop}
-use Rattle.rules.specs.Claim.{Means}
+use lib.ListN.{length, take}
+use lib.Seq.{length-take-le}
+use Rattle.rules.specs.First.{holds}
 use Rattle.rules.proofs.ClaimLaws.{holds_means}
 use Rattle.bits.proofs.Laws.{length-store}
 use Rattle.fields.specs.Fields.{stores, fit}
-use Rattle.fields.specs.Plans.{places_in, parts_in, end_in, values_in, fits}
-use Rattle.fields.proofs.Planned.{none, Step, end_after, next-part, next-end, all-passed, part-wide, part-fits, part-more, parts_all}
-use Rattle.fields.proofs.plans.lay.Goals.{Else-not-all_fit, In-loop-q}
+use Rattle.fields.specs.Lists.{list_of}
+use Rattle.fields.specs.declared.Layout.{Layout}
+use Rattle.fields.specs.declared.plans.Plan.{Plan}
+use Rattle.fields.specs.Plans.{Plans, values_of}
+use Rattle.fields.proofs.Joined.{widths_small}
+use Rattle.fields.proofs.Packing.{done, refused}
+use Rattle.fields.proofs.Planned.{few, short, room, joined, next-part, next-end, ends-early, all-passed, part-wide, part-fits, part-more, parts_all}
 use Rattle.fields.proofs.plans.lay.Goals as goal
 
--- what the test says of the answer and of the bytes
-wide : (b f : Bool) (x y : List ℕ) → b ≡ f → b ≡ false → (◌≡◌ {A = ℕ} 26 (cond f 0 26)) × (y ≡ cond f x y)
-wide b f x y e h = rw (← e, h) (refl, refl)
+-- the values that are looked at are the list's own
+judged : {k : Layout} {r : Plan} → Plans k r → (vs : List ℕ) {b : Bool} → b ≡ holds (fit r.places.now (take (length r.places.now) vs))
+    → holds (fit (list_of k) (values_of k vs)) ≡ b
+judged p vs e = sym (rw p.list at e)
 
-taken : (b f : Bool) (x y : List ℕ) → b ≡ f → b ≡ true → (◌≡◌ {A = ℕ} 0 (cond f 0 26)) × (x ≡ cond f x y)
-taken b f x y e h = rw (← e, h) (refl, refl)
+pub each_fits-requires : goal.each_fits-requires
+each_fits-requires g c =
+    let p = c.plan-plan.ensures in
+    let h = few p in
+    let n = ap length p.list in
+    (length-take-le (length c.plan-plan.result.places.now) c.args.values.now (omega arith), widths_small g.L.List.layout c.plan-plan.result.places.now p.list)
 
--- the values fit
-fit-here : (c : Else-not-all_fit) → Means (fit (places_in c.args.plan) (values_in c.args.plan c.args.values.now))
-fit-here c =
-    holds_means (fit (places_in c.args.plan) (values_in c.args.plan c.args.values.now)) (sym c.all_fit.ensures ∙ c.if-not-all_fit.false)
-
--- the part that a turn stores
-here : (c : In-loop-q)
-    → Step c.loop-q.from c.loop-q.i (places_in c.args.plan) (get_or c.args.plan.parts c.loop-q.q none)
-    (drop (c.loop-q.q + 1) (parts_in c.args.plan))
-here c = let l = c.loop-q in next-part c.requires.sound l.from l.i l.q (omega arith) l.invariant.5
-
--- it ends within the slice
-ends : (c : In-loop-q)
-    → c.loop-q.from + (get_or c.args.plan.parts c.loop-q.q none).1 ≤ end_in 2 (parts_in c.args.plan)
-ends c =
-    let l = c.loop-q in
-    let e = next-end c.requires.sound l.from l.q (omega arith) in
-    omega (arith, end_after (l.from + (get_or c.args.plan.parts l.q none).1) (drop (l.q + 1) (parts_in c.args.plan)), l.invariant.4)
-
-pub all_fit-requires : goal.all_fit-requires
-all_fit-requires c = let h = c.requires.sound in record { sound = h; count_in_bounds = omega (arith, h.few) }
-
-pub returns-then-not-all_fit : goal.returns-then-not-all_fit
-returns-then-not-all_fit c =
-    let d = wide c.all_fit.result (fits c.args.plan c.args.values.now) (stores c.args.s.now (places_in c.args.plan) (values_in c.args.plan c.args.values.now)) c.args.s.now c.all_fit.ensures c.if-not-all_fit.true in
+pub returns-then-not-each_fits : goal.returns-then-not-each_fits
+returns-then-not-each_fits g c =
+    let d = refused g.L.List.layout (values_of g.L.List.layout c.args.values.now) c.args.s.now (judged c.plan-plan.ensures c.args.values.now c.each_fits.ensures ∙ c.if-not-each_fits.true) in
     record { value = d.0; s_after = d.1 }
 
-pub loop-q-init : goal.loop-q-init
+pub loop-part-init : goal.loop-part-init
 unfolding stores
-loop-q-init c = (omega arith, omega arith, refl, refl, refl, c.requires.sound.cut)
-
-pub offset_bounds-plan-q : goal.offset_bounds-plan-q
-offset_bounds-plan-q c = omega (arith, c.requires.sound.room)
-
-pub bounds-plan-q : goal.bounds-plan-q
-bounds-plan-q c = omega (arith, c.requires.sound.room)
+loop-part-init g c = record { room = omega arith; bytes = λ j. (c.type_inv.s j).fits; size = refl; stored = refl; ends = refl; left = c.plan-plan.ensures.cut }
 
 pub together-x-requires : goal.together-x-requires
-together-x-requires c =
-    let h = c.requires.sound in
-    let s = here (goal.at.together-x-requires c).In-loop-q in
-    record { sound = h; means = (fit-here (goal.at.together-x-requires c).Else-not-all_fit); count_bound = (omega (arith, s.fits, h.count), omega (arith, s.bytes, part-wide s 16 _ h.joined)) }
+together-x-requires g c =
+    let k = g.L.List.layout in
+    let l = c.loop-part in
+    let p = c.plan-plan.ensures in
+    let s = next-part p l.from l.first l.part-index c.loop-part-test.true l.invariant.left in
+    let f = holds_means (fit (list_of k) (values_of k c.args.values.now)) (judged p c.args.values.now c.each_fits.ensures ∙ c.if-not-each_fits.false) in
+    record { means = f; count_bound = (s.fits, omega (arith, s.bytes, part-wide s 16 _ (joined p))) }
 
 pub save-requires : goal.save-requires
-save-requires c =
-    let n = c.loop-q.invariant.2 in (
-      part-fits c.requires.sound c.args.s.now c.args.values.now (λ j. (c.slice_known-1.given j).fits) c.requires.plan_in_bounds (fit-here (goal.at.save-requires c).Else-not-all_fit)
-          (here (goal.at.save-requires c).In-loop-q) c.together-x.ensures,
-      omega (arith, ends (goal.at.save-requires c).In-loop-q, c.requires.plan_in_bounds),
-    )
+save-requires g c =
+    let k = g.L.List.layout in
+    let l = c.loop-part in
+    let p = c.plan-plan.ensures in
+    let s = next-part p l.from l.first l.part-index c.loop-part-test.true l.invariant.left in
+    let e = ends-early p l.from l.part-index c.loop-part-test.true l.invariant.ends in
+    let r = room p c.args.s.now c.requires in
+    let n = l.invariant.size in
+    let f = holds_means (fit (list_of k) (values_of k c.args.values.now)) (judged p c.args.values.now c.each_fits.ensures ∙ c.if-not-each_fits.false) in
+    (part-fits p c.args.s.now c.args.values.now l.invariant.bytes c.requires f s c.together-x.ensures, omega arith)
 
-pub overflow_add-i : goal.overflow_add-i
-overflow_add-i c = omega (arith, (here (goal.at.overflow_add-i c).In-loop-q).fits, c.requires.sound.count, c.requires.sound.few)
+pub overflow_add-first : goal.overflow_add-first
+overflow_add-first g c =
+    let l = c.loop-part in
+    let p = c.plan-plan.ensures in
+    let s = next-part p l.from l.first l.part-index c.loop-part-test.true l.invariant.left in
+    let h = few p in
+    record { fits = omega (arith, s.fits) }
 
 pub overflow_add-from : goal.overflow_add-from
-overflow_add-from c = omega (arith, ends (goal.at.overflow_add-from c).In-loop-q, c.requires.sound.short)
+overflow_add-from g c =
+    let l = c.loop-part in
+    let p = c.plan-plan.ensures in
+    let e = ends-early p l.from l.part-index c.loop-part-test.true l.invariant.ends in
+    let h = short p in
+    record { fits = omega arith }
 
-pub overflow_add-q : goal.overflow_add-q
-overflow_add-q c = omega (arith, c.requires.sound.room)
-
-pub loop-q-preserved : goal.loop-q-preserved
-loop-q-preserved c =
-    let l = c.loop-q in
-    let s = here (goal.at.loop-q-preserved c).In-loop-q in
-    let e = c.save.ensures in (
-      omega arith,
-      omega (arith, s.fits, c.requires.sound.count),
-      ap length e ∙ simp length-store l.invariant.2,
-      part-more c.requires.sound c.args.s.now c.args.values.now (λ j. (c.slice_known-1.given j).fits) c.requires.plan_in_bounds (fit-here (goal.at.loop-q-preserved c).Else-not-all_fit) s
-          c.together-x.ensures l.invariant.3 e,
-      sym (next-end c.requires.sound l.from l.q (omega arith)) ∙ l.invariant.4,
-      s.rest,
-    )
-
-pub shape_of-s : goal.shape_of-s
-shape_of-s c = c.loop-q.invariant.2
+pub loop-part-preserved : goal.loop-part-preserved
+loop-part-preserved g c =
+    let k = g.L.List.layout in
+    let l = c.loop-part in
+    let p = c.plan-plan.ensures in
+    let s = next-part p l.from l.first l.part-index c.loop-part-test.true l.invariant.left in
+    let f = holds_means (fit (list_of k) (values_of k c.args.values.now)) (judged p c.args.values.now c.each_fits.ensures ∙ c.if-not-each_fits.false) in
+    let e = c.save.ensures in
+    record {
+      room = s.fits;
+      bytes = l.invariant.bytes;
+      size = ap length e ∙ simp length-store l.invariant.size;
+      stored = part-more p c.args.s.now c.args.values.now l.invariant.bytes c.requires f s c.together-x.ensures l.invariant.stored e;
+      ends = sym (next-end p l.from l.part-index c.loop-part-test.true) ∙ l.invariant.ends;
+      left = s.rest;
+    }
 
 pub returns : goal.returns
-returns c =
-    let l = c.loop-q in
-    let p = all-passed c.requires.sound l.from l.i l.q (omega arith) l.invariant.5 in
-    let a = l.invariant.3 ∙ parts_all c.requires.sound c.args.s.now c.args.values.now (λ j. (c.slice_known-1.given j).fits) c.requires.plan_in_bounds (fit-here (goal.at.returns c).Else-not-all_fit) l.i (omega arith) in
-    let d = taken c.all_fit.result (fits c.args.plan c.args.values.now) (stores c.args.s.now (places_in c.args.plan) (values_in c.args.plan c.args.values.now))
-    c.args.s.now c.all_fit.ensures c.if-not-all_fit.false in
+returns g c =
+    let k = g.L.List.layout in
+    let l = c.loop-part in
+    let p = c.plan-plan.ensures in
+    let vs = values_of k c.args.values.now in
+    let e = judged p c.args.values.now c.each_fits.ensures ∙ c.if-not-each_fits.false in
+    let f = holds_means (fit (list_of k) vs) e in
+    let n = all-passed p l.from l.first l.part-index (omega arith) l.invariant.left in
+    let a = l.invariant.stored ∙ parts_all p c.args.s.now c.args.values.now l.invariant.bytes c.requires f l.first (omega (arith, l.invariant.room)) in
+    let d = done k vs c.args.s.now e in
     record { value = d.0; s_after = a ∙ d.1 }

@@ -2,4 +2,4 @@
 use Rattle.readticket.proofs.checks.stated_of.Goals as goal
 
 pub returns : goal.returns
-returns c = rw (c.of_entry.ensures, c.of_entry-2.ensures, c.of_header.ensures, c.of_header-2.ensures, c.of_header-3.ensures)
+returns c = rw (c.entry_field.ensures, c.entry_field-2.ensures, c.header_field.ensures, c.header_field-2.ensures, c.header_field-3.ensures)

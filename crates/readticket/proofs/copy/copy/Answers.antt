@@ -14,10 +14,10 @@ first c =
     rw c.copy_block.ensures (begun_more l.i 32 (omega arith) l.invariant (omega arith))
 
 -- after the last block but one
-next-to-last : (c : After-copy_block-2) → Begun c.args.from.now c.copy_block-2.new.to (c.last_two.result + 32)
+next-to-last : (c : After-copy_block-2) → Begun c.args.from.now c.copy_block-2.new.to (c.saturating_sub.result + 32)
 next-to-last c =
     let l = c.loop-i in
-    rw c.copy_block-2.ensures (begun_more c.last_two.result 32 (omega arith) l.invariant (omega arith))
+    rw c.copy_block-2.ensures (begun_more c.saturating_sub.result 32 (omega arith) l.invariant (omega arith))
 
 pub loop-i-init : goal.loop-i-init
 loop-i-init c = begun-none _ _ c.requires.0

@@ -1,8 +1,9 @@
 -- `copy::next` meets its contract: an element of eight bits is a byte of the table. Assumes nothing.
 use mathlib.Core.Path.{◌≡◌, sym, ap, ◌∙◌}
 use mathlib.Core.List.{List}
-use Prim.Native.Nat.{ℕ, ◌+◌, ◌-◌, ◌*◌, ◌^◌, ◌≤◌, ◌<◌}
+use Prim.Native.Nat.{ℕ, ◌+◌, ◌-◌, ◌*◌, ◌≤◌, ◌<◌}
 use native.Mathlib.Omega.{arith}
+use borrow.Author.Rules.{rules}
 use lib.ListN.{length, get_or}
 use Rattle.bits.specs.Bits.{field}
 use Rattle.bits.proofs.Laws.{field-byte}
@@ -30,17 +31,8 @@ module _ {c : List ℕ} {g : Shape} (i : ℕ) (s : Shaped c g) (e : g.psi ≡ 8)
       ∙ ap (λ (x : ℕ). field c (8 * g.table + x * (i - 1)) x) (sym e)
       ∙ element-is s i
 
--- a byte fits a usize
-wide : {x : ℕ} → x < 2 ^ 8 → x < 2 ^ 64
-wide h = omega arith
-
-pub bounds-image-g : goal.bounds-image-g
-bounds-image-g c = let p = c.requires in byte-in _ p.shaped c.if-g-eq8.true p.sector
-
-pub overflow_cast-result : goal.overflow_cast-result
-overflow_cast-result c = record { fits = wide (c.type_inv.image _).fits }
+pub bounds-card-g : goal.bounds-card-g
+bounds-card-g c = byte-in _ c.args.card.now.shaped c.if-g-eq8.true c.requires
 
 pub returns-then-g-eq8 : goal.returns-then-g-eq8
-returns-then-g-eq8 c =
-    let p = c.requires in
-    byte-is _ p.shaped c.if-g-eq8.true (c.type_inv.image _).fits
+returns-then-g-eq8 c = c.from.ensures ∙ byte-is _ c.args.card.now.shaped c.if-g-eq8.true (search rules)

@@ -17,24 +17,24 @@ ends : (t b u : ℕ) → 1 ≤ t → u ≤ 8 * b → 8 * b < u + 8 → 8 * (t + 
 ends t b u h l k = omega arith
 
 pub overflow_mul-used : goal.overflow_mul-used
-overflow_mul-used c = omega (arith, used-is c.requires)
+overflow_mul-used c = omega (arith, used-is c.args.card.now.shaped)
 
 pub overflow_sub-g : goal.overflow_sub-g
 overflow_sub-g c =
-    let p = c.requires in
-    omega (arith, p.table_is, starts c.args.image.now)
+    let p = c.args.card.now.shaped in
+    omega (arith, p.table_is, starts c.args.card.now.image.now)
 
 pub overflow_sub-g-2 : goal.overflow_sub-g-2
-overflow_sub-g-2 c = omega (arith, used-is c.requires)
+overflow_sub-g-2 c = omega (arith, used-is c.args.card.now.shaped)
 
 pub closing-requires : goal.closing-requires
 closing-requires c =
-    omega (arith, used-is c.requires, c.requires.table_is, starts c.args.image.now)
+    omega (arith, used-is c.args.card.now.shaped, c.args.card.now.shaped.table_is, starts c.args.card.now.image.now)
 
 pub returns : goal.returns
 unfolding table_pad
 returns c =
-    let p = c.requires in
-    let m = c.args.image.now in
+    let p = c.args.card.now.shaped in
+    let m = c.args.card.now.image.now in
     let b = p.in_bounds in
     rw (c.closing.ensures, used-is p, p.table_is, p.bytes-is, ends (table_at m) (SCTL m) (Ψ (S m) * (S m - 3)) (starts m) b.elements-in b.elements_fill)

@@ -15,27 +15,25 @@ returns-then-load-ne0 c =
     let q : field a.image.now (8 * (a.from + 0)) (8 * 2) ≢ 0 = λ z. c.if-load-ne0.true (c.load.ensures ∙ (rw e at z)) in
     sym (ne_eqb _ _ (zero-not a.image.now a.from 0 2 a.count (omega arith) q))
 
-pub loop-k-init : goal.loop-k-init
-loop-k-init c = (omega arith, omega arith, sym c.load.ensures ∙ c.if-load-ne0.false)
-
-pub load-requires-in-loop-k : goal.load-requires-in-loop-k
-load-requires-in-loop-k c = (omega arith, omega (arith, c.loop-k.invariant.1))
-
 pub returns-then-load-ne0-2 : goal.returns-then-load-ne0-2
 returns-then-load-ne0-2 c =
     let l = c.loop-k in
     let a = c.args in
-    sym (ne_eqb _ _ (zero-not a.image.now a.from l.k 4 a.count (omega (arith, l.invariant.1)) (λ z. c.if-load-ne0-2.true (c.load-in-loop-k.ensures ∙ z))))
+    let e : a.from + (2 + 4 * l.k) ≡ a.from + 2 + 4 * l.k = omega arith in
+    let q : field a.image.now (8 * (a.from + (2 + 4 * l.k))) (8 * 4) ≢ 0 = λ z. c.if-load-ne0-2.true (c.load-in-loop-k.ensures ∙ (rw e at z)) in
+    sym (ne_eqb _ _ (zero-not a.image.now a.from (2 + 4 * l.k) 4 a.count (omega arith) q))
 
 pub loop-k-preserved : goal.loop-k-preserved
 loop-k-preserved c =
     let l = c.loop-k in
     let a = c.args in
-    (omega (arith, l.invariant.1), omega (arith, l.invariant.1), zero_more a.image.now a.from l.k 4 l.invariant.2 (sym c.load-in-loop-k.ensures ∙ c.if-load-ne0-2.false))
+    let e : a.from + (2 + 4 * l.k) ≡ a.from + 2 + 4 * l.k = omega arith in
+    let n : 2 + 4 * l.k + 4 ≡ 2 + 4 * (l.k + 1) = omega arith in
+    rw (← n) (zero_more a.image.now a.from (2 + 4 * l.k) 4 l.invariant (rw e (sym c.load-in-loop-k.ensures ∙ c.if-load-ne0-2.false)))
 
 pub returns : goal.returns
 returns c =
     let l = c.loop-k in
     let a = c.args in
-    let e : l.k ≡ a.count = omega arith in
-    sym (eq-eqb (field a.image.now (8 * a.from) (8 * a.count)) 0 (rw e at l.invariant.2))
+    let e : 2 + 4 * l.k ≡ a.count = omega arith in
+    sym (eq-eqb (field a.image.now (8 * a.from) (8 * a.count)) 0 (rw e at l.invariant))
