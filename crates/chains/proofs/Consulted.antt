@@ -55,11 +55,14 @@ module _ (p : ℕ → Bool) (f : ℕ → ℕ) (S : ℕ) (top : S ≤ 255) (secto
       rest zero h = h
       rest (suc o) h = omega arith
 
+      after : (r : ℕ) → ((n : ℕ) (seen : List ℕ) → of_first p f S m (suc k) n seen ≤ n)
+          → unless_zero r (λ l. if_zero (get_or seen (last_told (suc l)) 0) (of_first p f S m (suc k) (left_told (suc l)) (set seen (last_told (suc l)) 1))) ≤ left_told r
+      after zero ih = omega arith
+      after (suc l) ih = rest (get_or seen (last_told (suc l)) 0) (ih (left_told (suc l)) (set seen (last_told (suc l)) 1))
+
       go : (b : Bool) → p k ≡ b → ((n : ℕ) (seen : List ℕ) → of_first p f S m (suc k) n seen ≤ n)
-          → cond b (of_walk f S k n + if_zero (get_or seen (last_told (last_left n (walk f S k n))) 0) (of_first p f S m (suc k) (left_told (last_left n (walk f S k n))) (set seen (last_told (last_left n (walk f S k n))) 1))) (of_first p f S m (suc k) n seen) ≤ n
-      go true e ih =
-          let r = last_left n (walk f S k n) in
-          omega (arith, walk-takes (sector k e) n, rest (get_or seen (last_told r) 0) (ih (left_told r) (set seen (last_told r) 1)))
+          → cond b (of_walk f S k n + unless_zero (last_left n (walk f S k n)) (λ l. if_zero (get_or seen (last_told (suc l)) 0) (of_first p f S m (suc k) (left_told (suc l)) (set seen (last_told (suc l)) 1)))) (of_first p f S m (suc k) n seen) ≤ n
+      go true e ih = omega (arith, walk-takes (sector k e) n, after (last_left n (walk f S k n)) ih)
       go false e ih = ih n seen
 
   -- the same of the walk that looks at no sector twice
@@ -105,8 +108,8 @@ module _ (p : ℕ → Bool) (f : ℕ → ℕ) (S : ℕ) (top : S ≤ 255) (secto
   -- both passes together
   pub consulted-most : (e : ℕ) (stops : Bool) → consulted p f S e stops ≤ 2 * (S - 3)
   unfolding consulted
-  consulted-most e true = omega (arith, first-most e 1 (S - 3) (set (replicate 256 0) 0 1), second-most e 1 (S - 3) (replicate 256 0))
-  consulted-most e false = omega (arith, first-most e 1 (S - 3) (set (replicate 256 0) 0 1))
+  consulted-most e true = omega (arith, first-most e 1 (S - 3) (replicate 256 0), second-most e 1 (S - 3) (replicate 256 0))
+  consulted-most e false = omega (arith, first-most e 1 (S - 3) (replicate 256 0))
 
 -- four sectors in one line, which two entries share: the first pass consults all four elements and the second all four again
 line : ℕ → ℕ

@@ -25,13 +25,13 @@ unfoldable pub of_walk : (ℕ → ℕ) → ℕ → ℕ → ℕ → ℕ
 of_walk f S i zero = 0
 of_walk f S i (suc n) = and_on (link S i (f i)) (λ x. of_walk f S x n)
 
--- the first pass over m entries from entry k on, with n allowed: it stops where the walk's last sector, 0 where there is none, was seen before
+-- the first pass over m entries from entry k on, with n allowed: it stops where there is no chain, and where the chain's last sector was seen before
 unfoldable pub of_first : (ℕ → Bool) → (ℕ → ℕ) → ℕ → ℕ → ℕ → ℕ → List ℕ → ℕ
 of_first p f S zero k n seen = 0
 of_first p f S (suc m) k n seen =
     cond (p k)
     (of_walk f S k n
-    + if_zero (get_or seen (last_told (last_left n (walk f S k n))) 0) (of_first p f S m (suc k) (left_told (last_left n (walk f S k n))) (set seen (last_told (last_left n (walk f S k n))) 1)))
+    + unless_zero (last_left n (walk f S k n)) (λ l. if_zero (get_or seen (last_told (suc l)) 0) (of_first p f S m (suc k) (left_told (suc l)) (set seen (last_told (suc l)) 1))))
     (of_first p f S m (suc k) n seen)
 
 -- entry k's walk from sector i that looks at no sector twice
@@ -49,4 +49,4 @@ of_second p f S (suc m) k n owner =
 
 -- both passes over the entries 1, .., e; the second is made only where the first stops
 unfoldable pub consulted : (ℕ → Bool) → (ℕ → ℕ) → ℕ → ℕ → Bool → ℕ
-consulted p f S e stops = of_first p f S e 1 (S - 3) (set (replicate 256 0) 0 1) + cond stops (of_second p f S e 1 (S - 3) (replicate 256 0)) 0
+consulted p f S e stops = of_first p f S e 1 (S - 3) (replicate 256 0) + cond stops (of_second p f S e 1 (S - 3) (replicate 256 0)) 0

@@ -47,18 +47,18 @@ fn exactly<const N: usize>(word: &[u8]) -> Option<[u8; N]>
     Some(bytes)
 }
 
-// The bytes that a word means, in the space lent, if they are no more than it holds.
-fn many<'a>(word: &[u8], space: &'a mut [u8]) -> Option<&'a [u8]>
-    ensures { IfSome result (λ bytes. length bytes.now ≤ length space.old) }
+// How many bytes a word means, if a line may give so many.
+fn many(word: &[u8]) -> Option<usize>
+    ensures { IfSome result (λ n. n ≤ 70000) }
 {
-    let n = hex::count(word).filter(|n| *n <= space.len())?;
-    hex::read(word, space);
-    Some(&space[..n])
+    hex::count(word).filter(|n| *n <= MOST_BYTES)
 }
 
 fn crc(rt: &impl Print, word: &[u8]) -> Option<()> {
-    let mut space = [0u8; MOST_BYTES];
-    prints::line(rt, crc::crc(many(word, &mut space)?));
+    let n = many(word)?;
+    let mut bytes = [0u8; MOST_BYTES];
+    hex::read(word, &mut bytes);
+    prints::line(rt, crc::crc(&bytes[..n]));
     Some(())
 }
 
@@ -88,8 +88,10 @@ fn first_number(line: &[u8]) -> Option<(u64, &[u8])>
 // S, and the bytes of the table.
 fn table(rt: &impl Print, words: &[u8]) -> Option<()> {
     let (s, word) = first_number(words)?;
-    let mut space = [0u8; MOST_BYTES];
-    let r = Elements::from(card::decode_table(s, many(word, &mut space)?));
+    let n = many(word)?;
+    let mut bytes = [0u8; MOST_BYTES];
+    hex::read(word, &mut bytes);
+    let r = Elements::from(card::decode_table(s, &bytes[..n]));
     looks::counted(rt, r.number, r.entry, r.elements, r.count);
     Some(())
 }

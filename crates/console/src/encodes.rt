@@ -14,7 +14,6 @@ const LENT: usize = 4096;
 // None where the line is not understood. Where no array is answered C's structs stand between: what is printed is what C is told, zeros on a refusal, and
 // the count beside the list.
 pub(crate) fn encode(rt: &impl Print, asked: Encode, numbers: &Numbers) -> Option<()> {
-    let mut space = [FILLING; LENT];
     match asked {
         Encode::Entry => encoded(rt, card::encode_entry(numbers.part(0))),
         Encode::Head => encoded(rt, card::encode_head(numbers.part(0))),
@@ -26,8 +25,8 @@ pub(crate) fn encode(rt: &impl Print, asked: Encode, numbers: &Numbers) -> Optio
             let n = r.count.min(r.bytes.len());
             prints::encoded(rt, r.number, r.entry, &r.bytes[..n]);
         }
-        Encode::Shell(n) => shell(rt, shell_of(numbers), space.get_mut(..n)?),
-        Encode::Table(s, n) => table(rt, s, numbers.rest(2)?, space.get_mut(..n)?),
+        Encode::Shell(n) => return shell(rt, shell_of(numbers), n),
+        Encode::Table(s, n) => return table(rt, s, numbers.rest(2)?, n),
     }
     Some(())
 }
@@ -41,13 +40,26 @@ fn shell_of(numbers: &Numbers) -> Shell
     }
 }
 
-fn shell(rt: &impl Print, t: Shell, buffer: &mut [u8]) {
+// Into a buffer of so many bytes, if there is one.
+fn shell(rt: &impl Print, t: Shell, n: usize) -> Option<()> {
+    if LENT < n {
+        return None;
+    }
+    let mut space = [FILLING; LENT];
+    let buffer = &mut space[..n];
     let r = Answer::from(card::encode_shell(t, buffer));
     prints::encoded(rt, r.number, r.entry, buffer);
+    Some(())
 }
 
-// The elements are the numbers after S and the buffer's size.
-fn table(rt: &impl Print, s: u64, elements: &[u64], buffer: &mut [u8]) {
+// The same. The elements are the numbers after S and the buffer's size.
+fn table(rt: &impl Print, s: u64, elements: &[u64], n: usize) -> Option<()> {
+    if LENT < n {
+        return None;
+    }
+    let mut space = [FILLING; LENT];
+    let buffer = &mut space[..n];
     let r = Answer::from(card::encode_table(s, elements, buffer));
     prints::encoded(rt, r.number, r.entry, buffer);
+    Some(())
 }

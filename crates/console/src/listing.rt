@@ -43,12 +43,14 @@ fn products(rt: &impl Print, image: &[u8], entries: usize) {
 
 // The line of an entry: its number, TYP, mark and sectors; nothing where it is no product.
 fn product(rt: &impl Print, image: &[u8], j: usize) {
-    let (Ok(entry), Ok(chain)) = (card::read_entry(image, j), card::read_chain(image, j)) else {
+    let Ok(entry) = card::read_entry(image, j) else {
         return;
     };
-    let sectors = chain.sectors.map(u64::from);
+    let Ok(chain) = card::read_chain(image, j) else {
+        return;
+    };
     // By `min`: that the count is within its list is said by the definition of `read_chain`, and not by the type.
-    let list = prints::Values(&sectors[..chain.count.min(sectors.len())]);
+    let list = prints::Small(&chain.sectors[..chain.count.min(chain.sectors.len())]);
     prints::line(
         rt,
         format_args!("{j} {} {}{list}", entry[TYP], mark(chain.mark)),

@@ -24,15 +24,14 @@ pub(crate) fn look(rt: &impl Print, asked: Look, image: &[u8]) {
 // The number, the entry and the first `count` of the sectors. By `min` here and below: that a count is within its list is said by the call's definition,
 // and not by the type.
 pub(crate) fn counted(rt: &impl Print, number: usize, entry: usize, list: [u8; 252], count: usize) {
-    let all = list.map(u64::from);
-    prints::valued(rt, number, entry, &all[..count.min(all.len())]);
+    let first = prints::Small(&list[..count.min(list.len())]);
+    prints::line(rt, format_args!("{number} {entry}{first}"));
 }
 
 // The mark, the number of sectors, and the sectors.
 fn chain(rt: &impl Print, image: &[u8], j: usize) {
     let r = ChainRead::from(card::read_chain(image, j));
-    let sectors = r.sectors.map(u64::from);
-    let list = prints::Values(&sectors[..r.count.min(sectors.len())]);
+    let list = prints::Small(&r.sectors[..r.count.min(r.sectors.len())]);
     prints::line(
         rt,
         format_args!("{} {} {} {}{list}", r.number, r.entry, r.mark, r.count),

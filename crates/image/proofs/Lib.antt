@@ -17,4 +17,5 @@ pub mod Stays
 pub mod Founds
 pub mod Asked
 pub mod Isrn
+pub mod CheckDigit
 pub mod Mistyped

@@ -1,9 +1,8 @@
 // Why a call is refused: each reason by its name, with the number that it gives (document 01, "Numbers given back"). 0 is success.
 #![tactic(auto)]
 
-ghost use Rattle.std.specs.Prelude.{◌≡◌};
+ghost use Rattle.std.specs.Prelude.{◌≡◌, cond, Ok, Err};
 ghost use Rattle.rules.specs.Reasons.{number, said};
-ghost use Rattle.rules.specs.First.{if_kept};
 ghost use Rattle.rules.specs.Answer.{says};
 ghost use Rattle.rules.specs.Refusals.{answered, at_none};
 
@@ -56,9 +55,9 @@ impl Reason {
     }
 }
 
-// The refusal of a rule that is not kept.
-pub fn need(reason: Reason, kept: bool) -> Result<(), Reason>
-    ensures { said result ≡ if_kept kept 0 (number reason) }
+// The refusal of a rule that is not kept, by a reason or by a number.
+pub fn need<R: Drop>(reason: R, kept: bool) -> Result<(), R>
+    ensures { result ≡ cond kept (Ok tt) (Err reason) }
 {
     if kept { Ok(()) } else { Err(reason) }
 }

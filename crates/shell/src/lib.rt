@@ -134,16 +134,14 @@ impl Shell {
     }
 
     // The dataset: the bytes before SECR, and SECR.
-    #[tactic(auto, using(crate::proofs::Dataset::joined))]
     fn write_dataset(&self, s: &mut [u8])
         requires { (22 ≤ length s.old) × (length s.old ≡ dataset_of self.now.values) }
         ensures { s.new ≡ encoded_shell self.now.values }
     {
         let end = s.len() - 2;
-        let (body, secr) = s.split_at_mut(end);
-        self.write_body(body);
-        let [high, low] = crc::crc(body).to_be_bytes();
-        secr.copy_from_slice(&[high, low]);
+        self.write_body(&mut s[..end]);
+        let [high, low] = crc::crc(&s[..end]).to_be_bytes();
+        s[end..].copy_from_slice(&[high, low]);
     }
 
     // Judges the values, and writes the dataset of those that are taken. Tried as one function with `encode`: the edit `refusal_told_as_done` then changes the

@@ -4,13 +4,17 @@ use mathlib.Core.List.{List, [], ◌∷◌, ◌++◌, append-nil, append_assoc}
 use Prim.Native.Nat.{ℕ, zero, suc, ◌+◌, ◌*◌, ◌/◌, ◌%◌, ◌^◌, ◌≤◌, ◌<◌}
 use native.Mathlib.Omega.{arith}
 use native.Mathlib.Decide.{dec_lt}
+use native.Mathlib.Numerals.{add-one}
 use native.Mathlib.Nat.{pow-suc, div-lt_iff_lt-mul, mod-lt, lt_of_lt_of_le}
-use lib.ListN.{length, get_or, take}
+use lib.ListN.{length, get_or, take, set, length-set}
 use lib.Dec.{lit<, lit≤}
 use borrow.Author.Tests.{lt-ltb, le-ltb}
 use Rattle.std.specs.Fmt.{decimal}
+use Rattle.std.specs.Str.{IsAscii}
 use Rattle.std.proofs.lemmas.Fmt.{decimal_by_steps}
-use Rattle.io.specs.Digits.{last_digits}
+use Rattle.std.proofs.lemmas.List.{take_more_set}
+use Rattle.std.proofs.lemmas.Str.Ascii.{IsAscii-nil, IsAscii-cons}
+use Rattle.io.specs.Digits.{hex_digit_ascii, last_digits}
 use Rattle.text.specs.Numbers.{places, spelled}
 use Rattle.text.specs.Hex.{spelled_byte}
 use Rattle.text.specs.Printed.{each_spelled, pairs_spelled}
@@ -57,3 +61,35 @@ pub pairs_more : (l : List ℕ) (i : ℕ) → i < length l → pairs_spelled (ta
 pairs_more [] i h = absurd (omega arith)
 pairs_more (b ∷ l) zero h = refl
 pairs_more (b ∷ l) (suc i) h = rw (← pairs_more l i (omega arith)) refl
+
+-- ---- bytes in a space of digits
+
+-- the two digits x and y of the byte at i are put after those of the bytes before it
+pub pairs_put : (l out : List ℕ) (i x y : ℕ) → i < length l → 2 * i + 1 < length out
+    → x ≡ hex_digit_ascii (get_or l i 0 / 16) → y ≡ hex_digit_ascii (get_or l i 0 % 16)
+    → take (2 * i) out ≡ pairs_spelled (take i l) → take (2 * (i + 1)) (set (set out (2 * i) x) (2 * i + 1) y) ≡ pairs_spelled (take (i + 1) l)
+pairs_put l out i x y h fits ex ey e =
+    let two : 2 * (i + 1) ≡ 2 * i + 1 + 1 = omega arith in
+    let long : length (set out (2 * i) x) ≡ length out = length-set out (2 * i) x in
+    let second = take_more_set (set out (2 * i) x) (2 * i + 1) y (omega (arith, long)) in
+    let first = take_more_set out (2 * i) x (omega arith) in
+    rw (two, second, first, e, ex, ey, append_assoc, add-one) (pairs_more l i h)
+
+-- ---- a list in two parts
+
+pub pairs_append : (l m : List ℕ) → pairs_spelled (l ++ m) ≡ pairs_spelled l ++ pairs_spelled m
+pairs_append [] m = refl
+pairs_append (b ∷ l) m = rw (pairs_append l m) refl
+
+-- ---- the digits are ASCII
+
+digit_ascii : (d : ℕ) → d < 16 → hex_digit_ascii d < 128
+digit_ascii d h = elim (dec_lt d 10) [ yes g ↦ rw (lt-ltb d 10 g) (omega arith) | no g ↦ rw (le-ltb d 10 (omega arith)) (omega arith) ]
+
+pub pairs_ascii : (l : List ℕ) → ((i : ℕ) → get_or l i 0 < 256) → IsAscii (pairs_spelled l)
+pairs_ascii [] h = IsAscii-nil
+pairs_ascii (b ∷ l) h =
+    let f : b < 256 = h 0 in
+    let x = hex_digit_ascii (b / 16) in
+    let y = hex_digit_ascii (b % 16) in
+    IsAscii-cons x (y ∷ pairs_spelled l) (digit_ascii (b / 16) (omega arith)) (IsAscii-cons y (pairs_spelled l) (digit_ascii (b % 16) (omega arith)) (pairs_ascii l (λ i. h (suc i))))

@@ -8,7 +8,7 @@ use Rattle.image.specs.Image.{S, element}
 use Rattle.image.proofs.Places.{element-asks, element-read}
 use Rattle.reads.specs.Card.{elements}
 use Rattle.reads.proofs.Counted.{length-counted, get_or-counted}
-use Rattle.reads.proofs.Copied.{copy_more, copy-end}
+use Rattle.reads.proofs.Copied.{copy_more, copy-whole}
 use Rattle.readcard.proofs.list_elements.Goals.{At-loop-k}
 use Rattle.readcard.proofs.list_elements.Goals as goal
 
@@ -47,4 +47,4 @@ pub returns : goal.returns
 returns c =
     let at = (goal.at.returns c).At-loop-k in
     let n = long at in
-    rw (c.loop-k.invariant ∙ copy-end _ _ c.loop-k.k (omega arith) n, many at)
+    rw (c.loop-k.invariant ∙ copy-whole _ _ c.loop-k.k (omega arith) n, many at)

@@ -7,7 +7,7 @@ use Rattle.chains.specs.Chain.{Sector}
 use Rattle.image.specs.Image.{S, element, sectors}
 use Rattle.image.proofs.Places.{element-asks, element-read}
 use Rattle.image.proofs.Products.{there}
-use Rattle.reads.proofs.Copied.{copy_more, copy-end}
+use Rattle.reads.proofs.Copied.{copy_more, copy-whole}
 use Rattle.reads.proofs.Known.{there-start, there-at, there-next}
 use Rattle.readcard.proofs.entry.list_sectors.Goals.{At-loop-sector, In-loop-sector}
 use Rattle.readcard.proofs.entry.list_sectors.Goals as goal
@@ -52,4 +52,4 @@ returns c =
     let l = c.loop-sector in
     let p = c.args.found.now in
     let n = long (goal.at.returns c).At-loop-sector in
-    rw (l.invariant.0 ∙ copy-end _ _ l.sector-index (omega arith) n, p.count_is)
+    rw (l.invariant.0 ∙ copy-whole _ _ l.sector-index (omega arith) n, p.count_is)
